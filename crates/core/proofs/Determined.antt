@@ -1,0 +1,19 @@
+-- Any two answers that a promise allows are equal, for every public function of this crate: each promise names the answer.
+-- Assumes nothing.
+use Prim.Native.Nat.{ℕ}
+use mathlib.Core.Path.{_≡_, _∙_, sym}
+use Rattle.core.specs.Unit.{UnitPromise}
+use Rattle.core.specs.Word.{DecodePromise, EncodePromise}
+use Rattle.core.specs.declared.unit.Computed.{Computed}
+use Rattle.core.specs.declared.word.Decoded.{Decoded}
+use Rattle.core.specs.declared.word.Encoded.{Encoded}
+use Rattle.core.specs.declared.word.Instruction.{Instruction}
+
+pub decode-determined : (word : ℕ) (r s : Decoded) → DecodePromise word r → DecodePromise word s → r ≡ s
+decode-determined word r s p q = p ∙ sym q
+
+pub encode-determined : (i : Instruction) (r s : Encoded) → EncodePromise i r → EncodePromise i s → r ≡ s
+encode-determined i r s p q = p ∙ sym q
+
+pub unit-determined : (mode a b sr : ℕ) (r s : Computed) → UnitPromise mode a b sr r → UnitPromise mode a b sr s → r ≡ s
+unit-determined mode a b sr r s p q = p ∙ sym q

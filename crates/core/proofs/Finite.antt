@@ -1,0 +1,56 @@
+-- A test of every number below a bound, which the checker computes, and the law that turns it into the rule at each.
+-- Assumes nothing.
+use Prim.Native.Nat.{ℕ, zero, suc, _<_, _≤_, zero-le}
+use mathlib.Core.Bool.{Bool, true, false, _&&_}
+use mathlib.Core.Logic.{_⊎_, inl, inr, ⊎-elim}
+use mathlib.Core.Path.{_≡_, refl}
+use native.Mathlib.Nat.{not-suc-le-zero}
+use native.Mathlib.Omega.{arith}
+use borrow.Author.Tests.{eqb-true, eqb-false}
+use lib.Dec.{T, eqb, ltb, eqb→eq, ltb→lt}
+
+pub left : (a b : Bool) → T (a && b) → T a
+left true b t = tt
+left false b t = t
+
+pub right : (a b : Bool) → T (a && b) → T b
+right true b t = t
+right false b t = absurd t
+
+-- a proof for each of a list, side by side
+infixr 5 _&_
+abbrev pub _&_ : {A B : Type 0} → A → B → A × B
+a & b = (a, b)
+
+abbrev pub all : (ℕ → Bool) → ℕ → Bool
+all f zero = true
+all f (suc n) = f n && all f n
+
+same : (k n : ℕ) (t : Bool) → eqb k n ≡ t → (k ≡ n) ⊎ (k ≡ n → ⊥)
+same k n true e = inl (eqb-true k n e)
+same k n false e = inr (eqb-false k n e)
+
+pub each : (f : ℕ → Bool) (n : ℕ) → T (all f n) → (k : ℕ) → k < n → T (f k)
+each f zero t k h = absurd (not-suc-le-zero h)
+each f (suc n) t k h =
+    ⊎-elim (λ e. rw e (left (f n) (all f n) t)) (λ ne. each f n (right (f n) (all f n) t) k (omega arith))
+    (same k n (eqb k n) refl)
+
+-- the same over pairs
+abbrev pub all2 : (ℕ → ℕ → Bool) → ℕ → ℕ → Bool
+all2 f m n = all (λ i. all (f i) n) m
+
+pub each2 : (f : ℕ → ℕ → Bool) (m n : ℕ) → T (all2 f m n) → (i j : ℕ) → i < m → j < n → T (f i j)
+each2 f m n t i j hi hj = each (f i) n (each (λ k. all (f k) n) m t i hi) j hj
+
+-- a number that is none of the first k, as the last arm of a match on numbers has it
+abbrev pub NoneOf : ℕ → ℕ → Type 0
+NoneOf zero m = Unit {0}
+NoneOf (suc k) m = NoneOf k m × (m ≡ k → ⊥)
+
+past : {k m : ℕ} → k ≤ m → (m ≡ k → ⊥) → suc k ≤ m
+past h ne = omega arith
+
+pub none-of : (k m : ℕ) → NoneOf k m → k ≤ m
+none-of zero m t = zero-le
+none-of (suc k) m t = past (none-of k m (t .0)) (t .1)

@@ -1,0 +1,9 @@
+pub mod Determined
+pub mod Field
+pub mod Finite
+pub mod Kind
+pub mod Masks
+pub mod Overflow
+pub mod RoundTrip
+pub mod Shift
+pub mod Starred

@@ -1,0 +1,31 @@
+-- `core::word::encode` meets its promise: a field outside its range gets 14 and the word 0, any other instruction its word.
+-- Assumes nothing.
+use mathlib.Core.Path.{sym, _∙_}
+use borrow.Author.Needs.{needs}
+use Rattle.core.specs.Word.{encoded}
+use Rattle.core.proofs.word.encode.Statement.{statement}
+use Rattle.core.proofs.word.encode.Tie as tie
+use Rattle.core.proofs.word.encode.Reads as reads
+use Rattle.core.proofs.word.encode.Lts as lts
+use Rattle.core.proofs.word.in_range.Reads as in-range-reads
+use Rattle.core.proofs.word.word_of.Reads as word-of-reads
+
+-- src/word.rt:121:8
+in-range-requires : tie.Need-in-range-requires
+in-range-requires c κs = search needs
+
+-- src/word.rt:124:19
+word-of-requires : tie.Need-word-of-requires
+word-of-requires c κs = sym (c .before .in-range .ensures) ∙ c .if1 .taken
+
+returns : tie.Need-returns
+unfolding encoded
+returns c =
+    simp (sym (c .before .before .in-range .ensures) ∙ c .before .if1 .taken, c .word-of .ensures)
+
+returns-2 : tie.Need-returns-2
+unfolding encoded
+returns-2 c = simp (sym (c .before .in-range .ensures) ∙ c .if1 .left)
+
+pub encode-spec : {M : Type 1} → statement M
+encode-spec = tie.close (tie.spec in-range-requires word-of-requires returns returns-2)

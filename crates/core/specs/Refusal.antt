@@ -1,0 +1,34 @@
+-- Document 01's "Refusal numbers" by name, and which number a call gives where several rules are broken.
+-- Assumes nothing.
+use Prim.Native.Nat.{ℕ}
+use mathlib.Core.Bool.{Bool, cond}
+use mathlib.Core.List.{List, [], _∷_}
+
+-- no rule is broken: the call is accepted
+abbrev pub accepted : ℕ
+accepted = 0
+
+-- "10: word above 4095"
+abbrev pub wordAbove4095 : ℕ
+wordAbove4095 = 10
+
+-- "13: SR above 15 or IR above 4095"
+abbrev pub registerOutOfRange : ℕ
+registerOutOfRange = 13
+
+-- "14: an instruction field or mode outside its range"
+abbrev pub fieldOutOfRange : ℕ
+fieldOutOfRange = 14
+
+-- one check: whether its rule is broken, and the number that it then gives
+pub record Check : Type 0 where
+  pub broken : Bool
+  pub number : ℕ
+
+abbrev pub check : Bool → ℕ → Check
+check broken number = record { broken = broken; number = number }
+
+-- "Order.": the checks are tried in the order of the list, and the first broken rule gives its number
+abbrev pub firstBroken : List Check → ℕ
+firstBroken [] = accepted
+firstBroken (c ∷ cs) = cond (c .broken) (c .number) (firstBroken cs)
