@@ -1,12 +1,14 @@
--- The five kinds of `instructionAt` by the value of bits 11..8: each pattern of document 01's table is one range of it.
+-- The kind of a word goes by the value of bits 11..8, since each pattern of document 01's table is one range of it.
 -- Assumes nothing.
 use Prim.Native.Nat.{ℕ, _<_, _≤_}
 use mathlib.Core.Path.{_≡_}
+use native.Mathlib.Decide.{decLt}
 use native.Mathlib.Omega.{arith}
 use borrow.Author.Tests.{eq-eqb, ne-eqb}
 use Rattle.core.specs.Word.{bits, instructionAt, programAddress, dataAddress}
 use Rattle.core.specs.declared.word.Instruction.the-variants.{S, Goto, M, JumpIf, I}
 
+-- what is at a word of each kind
 module _ (word : ℕ) where
   pub at-S : bits 11 8 word ≡ 0b0000 → instructionAt word ≡ S (bits 7 0 word)
   unfolding instructionAt
@@ -30,3 +32,27 @@ module _ (word : ℕ) where
   unfolding instructionAt
   at-I lo =
       simp (ne-eqb (bits 11 8 word) 0b0000 (λ z. omega arith), ne-eqb (bits 11 8 word) 0b0001 (λ z. omega arith), ne-eqb (bits 11 9 word) 0b001 (λ z. omega arith), ne-eqb (bits 11 10 word) 0b01 (λ z. omega arith))
+
+-- every word has one of the kinds
+pub data Kind (word : ℕ) : Type 0 where
+  is-S : bits 11 8 word ≡ 0b0000 → Kind word
+  is-Goto : bits 11 8 word ≡ 0b0001 → Kind word
+  is-M : 0b0010 ≤ bits 11 8 word → bits 11 8 word ≤ 0b0011 → Kind word
+  is-JumpIf : 0b0100 ≤ bits 11 8 word → bits 11 8 word ≤ 0b0111 → Kind word
+  is-I : 0b1000 ≤ bits 11 8 word → Kind word
+
+pub kind : (word : ℕ) → Kind word
+kind word =
+    elim (decLt (bits 11 8 word) 1) [
+      | yes h ↦ is-S (omega arith)
+      | no n1 ↦ elim (decLt (bits 11 8 word) 2) [
+        | yes h ↦ is-Goto (omega arith)
+        | no n2 ↦ elim (decLt (bits 11 8 word) 4) [
+          | yes h ↦ is-M (omega arith) (omega arith)
+          | no n4 ↦ elim (decLt (bits 11 8 word) 8) [
+            | yes h ↦ is-JumpIf (omega arith) (omega arith)
+            | no n8 ↦ is-I (omega arith)
+          ]
+        ]
+      ]
+    ]

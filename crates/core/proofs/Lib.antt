@@ -4,6 +4,7 @@ pub mod Finite
 pub mod Kind
 pub mod Masks
 pub mod Overflow
+pub mod Range
 pub mod RoundTrip
 pub mod Shift
 pub mod Starred

@@ -12,11 +12,11 @@ use std::num::wrapping_add_u8;
 use std::num::wrapping_sub_u8;
 
 // A row of the table: the result, the mask of the flags that it sets, and C and O. Z and S go by the result.
-pub struct UnitRow {
-    pub result: u8,
-    pub sets: u8,
-    pub carry: bool,
-    pub overflow: bool,
+struct UnitRow {
+    result: u8,
+    sets: u8,
+    carry: bool,
+    overflow: bool,
 }
 
 pub struct Computed {

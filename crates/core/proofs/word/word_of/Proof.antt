@@ -1,9 +1,9 @@
--- `core::word::word_of` meets its promise: it joins the fields that the definition adds up, each within its width (`ranged-as`).
+-- `core::word::word_of` meets its promise: it joins the fields that the definition adds up, each within its width (`in-range-as`).
 -- Assumes nothing.
 use native.Mathlib.Omega.{arith}
 use borrow.Author.Needs.{needs}
 use Rattle.core.specs.Word.{wordOf}
-use Rattle.core.proofs.RoundTrip.{ranged-as}
+use Rattle.core.proofs.Range.{in-range-as}
 use Rattle.core.proofs.word.word_of.Statement.{statement}
 use Rattle.core.proofs.word.word_of.Tie as tie
 use Rattle.core.proofs.word.word_of.Reads as reads
@@ -44,7 +44,7 @@ cast-join-3 c = search needs
 
 -- src/word.rt:115:13
 join-requires-3 : tie.Need-join-requires-3
-join-requires-3 c κs = let h = ranged-as _ _ (c .before .instruction3 .given .1) (c .before .before .before .pre) in omega arith
+join-requires-3 c κs = let h = in-range-as _ _ (c .before .instruction3 .given .1) (c .before .before .before .pre) in omega arith
 
 -- src/word.rt:116:18
 cast-join-4 : tie.Need-cast-join-4
@@ -56,11 +56,11 @@ cast-join-5 c = search needs
 
 -- src/word.rt:116:13
 join-requires-4 : tie.Need-join-requires-4
-join-requires-4 c κs = let h = ranged-as _ _ (c .before .before .before .instruction3 .given .1) (c .before .before .before .before .before .pre) in omega arith
+join-requires-4 c κs = let h = in-range-as _ _ (c .before .before .before .instruction3 .given .1) (c .before .before .before .before .before .pre) in omega arith
 
 -- src/word.rt:114:45
 join-requires-5 : tie.Need-join-requires-5
-join-requires-5 c κs = let h = ranged-as _ _ (c .before .before .before .before .instruction3 .given .1) (c .before .before .before .before .before .before .pre) in omega arith
+join-requires-5 c κs = let h = in-range-as _ _ (c .before .before .before .before .instruction3 .given .1) (c .before .before .before .before .before .before .pre) in omega arith
 
 -- src/word.rt:119:31
 enum-known-instruction-4 : tie.Need-enum-known-instruction-4
@@ -72,7 +72,7 @@ cast-join-6 c = search needs
 
 -- src/word.rt:120:18
 join-requires-6 : tie.Need-join-requires-6
-join-requires-6 c κs = let h = ranged-as _ _ (c .before .instruction4 .given .1) (c .before .before .before .pre) in omega arith
+join-requires-6 c κs = let h = in-range-as _ _ (c .before .instruction4 .given .1) (c .before .before .before .pre) in omega arith
 
 -- src/word.rt:120:46
 cast-join-7 : tie.Need-cast-join-7
@@ -80,7 +80,7 @@ cast-join-7 c = search needs
 
 -- src/word.rt:120:13
 join-requires-7 : tie.Need-join-requires-7
-join-requires-7 c κs = let h = ranged-as _ _ (c .before .before .before .instruction4 .given .1) (c .before .before .before .before .before .pre) in omega arith
+join-requires-7 c κs = let h = in-range-as _ _ (c .before .before .before .instruction4 .given .1) (c .before .before .before .before .before .pre) in omega arith
 
 -- src/word.rt:122:26
 enum-known-instruction-5 : tie.Need-enum-known-instruction-5
@@ -92,7 +92,7 @@ cast-join-8 c = search needs
 
 -- src/word.rt:122:52
 join-requires-8 : tie.Need-join-requires-8
-join-requires-8 c κs = let h = ranged-as _ _ (c .before .instruction5 .given .1) (c .before .before .before .pre) in omega arith
+join-requires-8 c κs = let h = in-range-as _ _ (c .before .instruction5 .given .1) (c .before .before .before .pre) in omega arith
 
 -- src/word.rt:122:79
 cast-join-9 : tie.Need-cast-join-9
@@ -100,7 +100,7 @@ cast-join-9 c = search needs
 
 -- src/word.rt:122:47
 join-requires-9 : tie.Need-join-requires-9
-join-requires-9 c κs = let h = ranged-as _ _ (c .before .before .instruction5 .given .1) (c .before .before .before .before .pre) in omega arith
+join-requires-9 c κs = let h = in-range-as _ _ (c .before .before .instruction5 .given .1) (c .before .before .before .before .pre) in omega arith
 
 -- src/word.rt:107:1
 returns : tie.Need-returns
