@@ -1,8 +1,8 @@
 -- Fields of bits, once over the width: what shifts and masks cut and join is what document 01 says by position, since a shift by k is
--- a product or a quotient by 2 ^ k, and a mask of k ones is the remainder by 2 ^ k. Cited at 1, 2, 3, 4 and 8 bits of bytes and words.
+-- a product or a quotient by 2 ^ k, and a mask of k ones is the remainder by 2 ^ k. Cited at 1, 2, 3, 4, 8 and 12 bits.
 -- Assumes nothing.
 use Prim.Native.Nat.{ℕ, _+_, _-_, _*_, _/_, _%_, _^_, _<_, _≤_}
-use mathlib.Core.Path.{_≡_, _∙_, ap, sym, subst⁻¹}
+use mathlib.Core.Path.{_≡_, _∙_, ap, sym}
 use native.Mathlib.Nat.{mod-lt, lt-of-lt-of-le, one-mul}
 use native.Mathlib.Omega.{arith}
 use lib.Bits.{bitAnd, bitOr, and-mask, or-shifted}

@@ -1,6 +1,6 @@
 -- The kind of a word goes by the value of bits 11..8, since each pattern of document 01's table is one range of it.
 -- Assumes nothing.
-use Prim.Native.Nat.{ℕ, _<_, _≤_}
+use Prim.Native.Nat.{ℕ, _≤_}
 use mathlib.Core.Path.{_≡_}
 use native.Mathlib.Decide.{decLt}
 use native.Mathlib.Omega.{arith}

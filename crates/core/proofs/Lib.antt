@@ -1,4 +1,5 @@
 pub mod Determined
+pub mod Difference
 pub mod Field
 pub mod Finite
 pub mod Kind

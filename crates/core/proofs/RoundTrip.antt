@@ -10,7 +10,7 @@ use native.Mathlib.Omega.{arith}
 use borrow.Author.Tests.{le-ltb, lt-ltb}
 use lib.Pow.{field, high, low}
 use Rattle.core.specs.Refusal.{accepted, wordAbove4095, fieldOutOfRange}
-use Rattle.core.specs.Word.{bits, programAddress, dataAddress, instructionAt, wordOf, inRange, decoded, encodedAs, encoded}
+use Rattle.core.specs.Word.{bits, programAddress, instructionAt, wordOf, inRange, decoded, encodedAs, encoded}
 use Rattle.core.specs.declared.word.Decoded.{Decoded}
 use Rattle.core.specs.declared.word.Instruction.{Instruction}
 use Rattle.core.specs.declared.word.Instruction.the-variants.{S, Goto, M, JumpIf, I}
@@ -66,9 +66,9 @@ sum d mode cell e f g = omega arith
 
 M-word : (word : ℕ) → 0b0010 ≤ bits 11 8 word → bits 11 8 word ≤ 0b0011 → word ≤ 4095 → (2 + bits 8 8 word) * 256 + (bits 7 4 word * 16 + bits 3 0 word) ≡ word
 M-word word lo hi h =
-    let g : word ≡ bits 11 8 word * 256 + bits 7 0 word = omega arith in
-    let e : bits 11 8 word ≡ 2 + bits 8 8 word = omega arith in
-    sum (bits 8 8 word) (bits 7 4 word) (bits 3 0 word) e (neighbours word 4 4 0) g
+    let whole : word ≡ word / 2 ^ 0 % 2 ^ 12 = omega arith in
+    let top : bits 11 8 word ≡ 2 + bits 8 8 word = omega arith in
+    sum (bits 8 8 word) (bits 7 4 word) (bits 3 0 word) top (neighbours word 4 4 0) (whole ∙ neighbours word 4 8 0)
 
 stands : (word : ℕ) → word ≤ 4095 → Kind word → StandsIn word (instructionAt word)
 unfolding inRange wordOf

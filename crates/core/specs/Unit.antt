@@ -14,6 +14,13 @@ use Rattle.core.specs.Word.{flagO, flagS, flagC, flagZ}
 use Rattle.core.specs.declared.unit.UnitRow.{UnitRow}
 use Rattle.core.specs.declared.unit.Computed.{Computed}
 
+-- "Results are modulo 256": sums, and differences of two bytes
+abbrev pub plus : ℕ → ℕ → ℕ
+plus a b = (a + b) % 256
+
+abbrev pub minus : ℕ → ℕ → ℕ
+minus a b = (a + 256 - b) % 256
+
 -- bit k of a byte, or flag k of SR or of a mask of flags
 abbrev pub isSet : ℕ → ℕ → Bool
 isSet k number = eqb (number / 2 ^ k % 2) 1
@@ -71,29 +78,29 @@ ifShifted n shifted unshifted = cond (eqb n 0) unshifted shifted
 abbrev pub row : ℕ → ℕ → Bool → Bool → UnitRow
 row result sets carry overflow = record { result = result; sets = sets; carry = carry; overflow = overflow }
 
--- The table, a row a mode. "a is operand 1 (Acc), b is operand 2, n = a mod 8. Results are modulo 256."
--- C of a subtraction is a BORROW: modes 1, 7, 9 and F. C and O that a row does not set are false and go nowhere.
+-- The table, a row a mode. "a is operand 1 (Acc), b is operand 2, n = a mod 8."
+-- C of a subtraction is a BORROW: modes 1, 7, 9 and F. A C or an O that the row does not set goes nowhere.
 unfoldable pub table : ℕ → ℕ → ℕ → List UnitRow
 table a b n =
     -- row: result, sets, C, O
-    row ((a + b) % 256) zcso (ltb 255 (a + b)) (outside (signed a +ℤ signed b)) ∷  -- 0
-    row ((a + 256 - b) % 256) zcso (ltb a b) (outside (signed a -ℤ signed b)) ∷  -- 1
+    row (plus a b) zcso (ltb 255 (a + b)) (outside (signed a +ℤ signed b)) ∷  -- 0
+    row (minus a b) zcso (ltb a b) (outside (signed a -ℤ signed b)) ∷  -- 1
     row a none false false ∷  -- 2
     row b none false false ∷  -- 3
     row (bitAnd a b) onlyZ false false ∷  -- 4
     row (bitOr a b) onlyZ false false ∷  -- 5
     row (bitXor a b) onlyZ false false ∷  -- 6
-    row ((b + 256 - a) % 256) zcso (ltb b a) (outside (signed b -ℤ signed a)) ∷  -- 7
-    row ((b + 1) % 256) zcso (eqb b 255) (eqb b 127) ∷  -- 8
-    row ((b + 256 - 1) % 256) zcso (eqb b 0) (eqb b 128) ∷  -- 9
+    row (minus b a) zcso (ltb b a) (outside (signed b -ℤ signed a)) ∷  -- 7
+    row (plus b 1) zcso (eqb b 255) (eqb b 127) ∷  -- 8
+    row (minus b 1) zcso (eqb b 0) (eqb b 128) ∷  -- 9
     row (rotatedLeft b n) none false false ∷  -- A
     row (rotatedRight b n) none false false ∷  -- B
     row ((b * 2 ^ n) % 256) (ifShifted n zc none) (isSet (8 - n) b) false ∷  -- C
     row (b / 2 ^ n) (ifShifted n zc none) (isSet (n - 1) b) false ∷  -- D
     row (filledRight b n) (ifShifted n zcs onlyS) (isSet (n - 1) b) false ∷  -- E
-    row ((0 + 256 - b) % 256) zcso (ltb 0 b) (eqb b 128) ∷ []  -- F
+    row (minus 0 b) zcso (ltb 0 b) (eqb b 128) ∷ []  -- F
 
--- the row of a mode
+-- the row of a mode; what stands here for a mode above 15 goes nowhere, since the unit refuses it
 abbrev pub rowAt : ℕ → ℕ → ℕ → UnitRow
 rowAt mode a b = getD (table a b (a % 8)) mode (row 0 none false false)
 
@@ -125,6 +132,7 @@ abbrev pub computedAs : ℕ → ℕ → ℕ → Computed
 computedAs number result flags =
     record { refusal = number; result = cond (eqb number accepted) result 0; flags = cond (eqb number accepted) flags 0 }
 
+-- the unit's answer
 unfoldable pub computed : ℕ → ℕ → ℕ → ℕ → Computed
 computed mode a b sr = computedAs (unitRefusal mode sr) (unitResult mode a b) (unitFlags mode a b sr)
 

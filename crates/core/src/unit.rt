@@ -1,7 +1,6 @@
 // The arithmetic unit: a row of document 01's table for each mode, and the flags that the row sets merged into SR once.
 ghost use mathlib.Core.Path.{_≡_};
-ghost use mathlib.Core.Bool.{Bool, false};
-ghost use Prim.Native.Nat.{_+_, _-_, _*_, _/_, _%_, _^_, _<_, _≤_};
+ghost use Prim.Native.Nat.{_+_, _-_, _%_, _<_};
 ghost use lib.Dec.{ltb};
 ghost use lib.IntN.{_+ℤ_, _-ℤ_};
 ghost use Rattle.core.specs.Unit.{isSet, signed, outside, rotatedLeft, filledRight, oneIf, packed, ifShifted, row, rowAt, merged, computedAs, UnitPromise};
@@ -19,6 +18,7 @@ struct UnitRow {
     overflow: bool,
 }
 
+// Result and flags, or the number of the refusal and 0 for both.
 pub struct Computed {
     pub refusal: u8,
     pub result: u8,
@@ -177,6 +177,7 @@ fn refused(refusal: u8) -> Computed
     }
 }
 
+// Refuses 14, then 13.
 pub fn unit(mode: u8, a: u8, b: u8, sr: u8) -> Computed
     ensures { λ r. ⌜ UnitPromise mode a b sr r ⌝ }
 {

@@ -18,11 +18,13 @@ pub enum Instruction {
     I { mode: u8, immediate: u8 },
 }
 
+// What a word means, or the number of its refusal.
 pub enum Decoded {
     Accepted(Instruction),
     Refused(u8),
 }
 
+// The word of an instruction, or the number of the refusal and the word 0.
 pub struct Encoded {
     pub refusal: u8,
     pub word: u16,
@@ -73,6 +75,7 @@ fn instruction_at(word: u16) -> Instruction
     }
 }
 
+// Refuses 10.
 pub fn decode(word: u16) -> Decoded
     ensures { λ r. ⌜ DecodePromise word r ⌝ }
 {
@@ -123,6 +126,7 @@ fn word_of(instruction: Instruction) -> u16
     }
 }
 
+// Refuses 14.
 pub fn encode(instruction: Instruction) -> Encoded
     ensures { λ r. ⌜ EncodePromise instruction r ⌝ }
 {

@@ -5,20 +5,14 @@ use borrow.Author.Tests.{lt-ltb, le-ltb}
 use Rattle.core.specs.Word.{decoded}
 use Rattle.core.proofs.word.decode.Statement.{statement}
 use Rattle.core.proofs.word.decode.Tie as tie
-use Rattle.core.proofs.word.decode.Reads as reads
-use Rattle.core.proofs.word.decode.Lts as lts
-use Rattle.core.proofs.word.instruction_at.Reads as instruction-at-reads
 
--- src/word.rt:80:9
 returns : tie.Need-returns
 unfolding decoded
 returns c = simp (lt-ltb 4095 (c .before .args .word) (c .if1 .taken))
 
--- src/word.rt:82:23
 instruction-at-requires : tie.Need-instruction-at-requires
 instruction-at-requires c κs = search needs
 
--- src/word.rt:76:1
 returns-2 : tie.Need-returns-2
 unfolding decoded
 returns-2 c = simp (le-ltb 4095 (c .before .before .args .word) (c .before .if1 .left), c .instruction-at .ensures)

@@ -5,16 +5,10 @@ use borrow.Author.Needs.{needs}
 use Rattle.core.specs.Word.{encoded}
 use Rattle.core.proofs.word.encode.Statement.{statement}
 use Rattle.core.proofs.word.encode.Tie as tie
-use Rattle.core.proofs.word.encode.Reads as reads
-use Rattle.core.proofs.word.encode.Lts as lts
-use Rattle.core.proofs.word.in_range.Reads as in-range-reads
-use Rattle.core.proofs.word.word_of.Reads as word-of-reads
 
--- src/word.rt:121:8
 in-range-requires : tie.Need-in-range-requires
 in-range-requires c κs = search needs
 
--- src/word.rt:124:19
 word-of-requires : tie.Need-word-of-requires
 word-of-requires c κs = sym (c .before .in-range .ensures) ∙ c .if1 .taken
 

@@ -5,14 +5,10 @@ use borrow.Author.Needs.{needs}
 use Rattle.core.proofs.Field.{power}
 use Rattle.core.proofs.word.fits.Statement.{statement}
 use Rattle.core.proofs.word.fits.Tie as tie
-use Rattle.core.proofs.word.fits.Reads as reads
-use Rattle.core.proofs.word.fits.Lts as lts
 
--- src/word.rt:90:22
 shl-result : tie.Need-shl-result
 shl-result c = search needs
 
--- src/word.rt:86:1
 returns : tie.Need-returns
 returns c = rw (power (c .args .width) 16 (omega arith))
 

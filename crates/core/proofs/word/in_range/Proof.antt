@@ -4,87 +4,65 @@ use borrow.Author.Needs.{needs}
 use Rattle.core.specs.Word.{inRange}
 use Rattle.core.proofs.word.in_range.Statement.{statement}
 use Rattle.core.proofs.word.in_range.Tie as tie
-use Rattle.core.proofs.word.in_range.Reads as reads
-use Rattle.core.proofs.word.in_range.Lts as lts
-use Rattle.core.proofs.word.fits.Reads as fits-reads
 
--- src/word.rt:98:26
 enum-known-instruction : tie.Need-enum-known-instruction
 enum-known-instruction c = search needs
 
--- src/word.rt:98:33
 fits-requires : tie.Need-fits-requires
 fits-requires c κs = search needs
 
--- src/word.rt:99:29
 enum-known-instruction-2 : tie.Need-enum-known-instruction-2
 enum-known-instruction-2 c = search needs
 
--- src/word.rt:99:41
 fits-requires-2 : tie.Need-fits-requires-2
 fits-requires-2 c κs = search needs
 
--- src/word.rt:100:26
 enum-known-instruction-3 : tie.Need-enum-known-instruction-3
 enum-known-instruction-3 c = search needs
 
--- src/word.rt:100:45
 fits-requires-3 : tie.Need-fits-requires-3
 fits-requires-3 c κs = search needs
 
--- src/word.rt:100:58
 fits-requires-4 : tie.Need-fits-requires-4
 fits-requires-4 c κs = search needs
 
--- src/word.rt:100:74
 fits-requires-5 : tie.Need-fits-requires-5
 fits-requires-5 c κs = search needs
 
--- src/word.rt:101:31
 enum-known-instruction-4 : tie.Need-enum-known-instruction-4
 enum-known-instruction-4 c = search needs
 
--- src/word.rt:101:49
 fits-requires-6 : tie.Need-fits-requires-6
 fits-requires-6 c κs = search needs
 
--- src/word.rt:101:65
 fits-requires-7 : tie.Need-fits-requires-7
 fits-requires-7 c κs = search needs
 
--- src/word.rt:102:26
 enum-known-instruction-5 : tie.Need-enum-known-instruction-5
 enum-known-instruction-5 c = search needs
 
--- src/word.rt:102:47
 fits-requires-8 : tie.Need-fits-requires-8
 fits-requires-8 c κs = search needs
 
--- src/word.rt:102:63
 fits-requires-9 : tie.Need-fits-requires-9
 fits-requires-9 c κs = search needs
 
--- src/word.rt:94:1
 returns : tie.Need-returns
 unfolding inRange
 returns c = simp (c .before .before .instruction .given .1, c .fits2 .ensures)
 
--- src/word.rt:94:1
 returns-2 : tie.Need-returns-2
 unfolding inRange
 returns-2 c = simp (c .before .before .instruction2 .given .1, c .fits3 .ensures)
 
--- src/word.rt:94:1
 returns-3 : tie.Need-returns-3
 unfolding inRange
 returns-3 c = simp (c .before .before .before .before .instruction3 .given .1, c .before .before .fits4 .ensures, c .before .fits5 .ensures, c .fits6 .ensures)
 
--- src/word.rt:94:1
 returns-4 : tie.Need-returns-4
 unfolding inRange
 returns-4 c = simp (c .before .before .before .instruction4 .given .1, c .before .fits7 .ensures, c .fits8 .ensures)
 
--- src/word.rt:94:1
 returns-5 : tie.Need-returns-5
 unfolding inRange
 returns-5 c = simp (c .before .before .before .instruction5 .given .1, c .before .fits9 .ensures, c .fits10 .ensures)

@@ -5,47 +5,34 @@ use borrow.Author.Needs.{needs}
 use Rattle.core.proofs.Kind.{at-S, at-Goto, at-M, at-JumpIf, at-I}
 use Rattle.core.proofs.word.instruction_at.Statement.{statement}
 use Rattle.core.proofs.word.instruction_at.Tie as tie
-use Rattle.core.proofs.word.instruction_at.Reads as reads
-use Rattle.core.proofs.word.instruction_at.Lts as lts
-use Rattle.core.proofs.word.bits.Reads as bits-reads
 
--- src/word.rt:52:9
 bits-requires : tie.Need-bits-requires
 bits-requires c κs = search needs
 
--- src/word.rt:55:16
 bits-requires-2 : tie.Need-bits-requires-2
 bits-requires-2 c κs = search needs
 
--- src/word.rt:58:36
 bits-requires-3 : tie.Need-bits-requires-3
 bits-requires-3 c κs = search needs
 
--- src/word.rt:61:16
 bits-requires-4 : tie.Need-bits-requires-4
 bits-requires-4 c κs = search needs
 
--- src/word.rt:62:19
 bits-requires-5 : tie.Need-bits-requires-5
 bits-requires-5 c κs = search needs
 
--- src/word.rt:63:31
 bits-requires-6 : tie.Need-bits-requires-6
 bits-requires-6 c κs = search needs
 
--- src/word.rt:66:19
 bits-requires-7 : tie.Need-bits-requires-7
 bits-requires-7 c κs = search needs
 
--- src/word.rt:67:36
 bits-requires-8 : tie.Need-bits-requires-8
 bits-requires-8 c κs = search needs
 
--- src/word.rt:70:19
 bits-requires-9 : tie.Need-bits-requires-9
 bits-requires-9 c κs = search needs
 
--- src/word.rt:71:24
 bits-requires-10 : tie.Need-bits-requires-10
 bits-requires-10 c κs = search needs
 

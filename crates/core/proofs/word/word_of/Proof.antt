@@ -6,123 +6,92 @@ use Rattle.core.specs.Word.{wordOf}
 use Rattle.core.proofs.Range.{in-range-as}
 use Rattle.core.proofs.word.word_of.Statement.{statement}
 use Rattle.core.proofs.word.word_of.Tie as tie
-use Rattle.core.proofs.word.word_of.Reads as reads
-use Rattle.core.proofs.word.word_of.Lts as lts
-use Rattle.core.proofs.word.join.Reads as join-reads
 
--- src/word.rt:112:26
 enum-known-instruction : tie.Need-enum-known-instruction
 enum-known-instruction c = search needs
 
--- src/word.rt:112:46
 cast-join : tie.Need-cast-join
 cast-join c = search needs
 
--- src/word.rt:112:33
 join-requires : tie.Need-join-requires
 join-requires c κs = search needs
 
--- src/word.rt:113:29
 enum-known-instruction-2 : tie.Need-enum-known-instruction-2
 enum-known-instruction-2 c = search needs
 
--- src/word.rt:113:54
 cast-join-2 : tie.Need-cast-join-2
 cast-join-2 c = search needs
 
--- src/word.rt:113:41
 join-requires-2 : tie.Need-join-requires-2
 join-requires-2 c κs = search needs
 
--- src/word.rt:114:26
 enum-known-instruction-3 : tie.Need-enum-known-instruction-3
 enum-known-instruction-3 c = search needs
 
--- src/word.rt:115:25
 cast-join-3 : tie.Need-cast-join-3
 cast-join-3 c = search needs
 
--- src/word.rt:115:13
 join-requires-3 : tie.Need-join-requires-3
 join-requires-3 c κs = let h = in-range-as _ _ (c .before .instruction3 .given .1) (c .before .before .before .pre) in omega arith
 
--- src/word.rt:116:18
 cast-join-4 : tie.Need-cast-join-4
 cast-join-4 c = search needs
 
--- src/word.rt:116:31
 cast-join-5 : tie.Need-cast-join-5
 cast-join-5 c = search needs
 
--- src/word.rt:116:13
 join-requires-4 : tie.Need-join-requires-4
 join-requires-4 c κs = let h = in-range-as _ _ (c .before .before .before .instruction3 .given .1) (c .before .before .before .before .before .pre) in omega arith
 
--- src/word.rt:114:45
 join-requires-5 : tie.Need-join-requires-5
 join-requires-5 c κs = let h = in-range-as _ _ (c .before .before .before .before .instruction3 .given .1) (c .before .before .before .before .before .before .pre) in omega arith
 
--- src/word.rt:119:31
 enum-known-instruction-4 : tie.Need-enum-known-instruction-4
 enum-known-instruction-4 c = search needs
 
--- src/word.rt:120:29
 cast-join-6 : tie.Need-cast-join-6
 cast-join-6 c = search needs
 
--- src/word.rt:120:18
 join-requires-6 : tie.Need-join-requires-6
 join-requires-6 c κs = let h = in-range-as _ _ (c .before .instruction4 .given .1) (c .before .before .before .pre) in omega arith
 
--- src/word.rt:120:46
 cast-join-7 : tie.Need-cast-join-7
 cast-join-7 c = search needs
 
--- src/word.rt:120:13
 join-requires-7 : tie.Need-join-requires-7
 join-requires-7 c κs = let h = in-range-as _ _ (c .before .before .before .instruction4 .given .1) (c .before .before .before .before .before .pre) in omega arith
 
--- src/word.rt:122:26
 enum-known-instruction-5 : tie.Need-enum-known-instruction-5
 enum-known-instruction-5 c = search needs
 
--- src/word.rt:122:62
 cast-join-8 : tie.Need-cast-join-8
 cast-join-8 c = search needs
 
--- src/word.rt:122:52
 join-requires-8 : tie.Need-join-requires-8
 join-requires-8 c κs = let h = in-range-as _ _ (c .before .instruction5 .given .1) (c .before .before .before .pre) in omega arith
 
--- src/word.rt:122:79
 cast-join-9 : tie.Need-cast-join-9
 cast-join-9 c = search needs
 
--- src/word.rt:122:47
 join-requires-9 : tie.Need-join-requires-9
 join-requires-9 c κs = let h = in-range-as _ _ (c .before .before .instruction5 .given .1) (c .before .before .before .before .pre) in omega arith
 
--- src/word.rt:107:1
 returns : tie.Need-returns
 unfolding wordOf
 returns c = simp (c .before .before .instruction .given .1, c .join .ensures)
 
--- src/word.rt:107:1
 returns-2 : tie.Need-returns-2
 unfolding wordOf
 returns-2 c = simp (c .before .before .before .instruction2 .given .1, c .join2 .ensures)
 
--- src/word.rt:107:1
 returns-3 : tie.Need-returns-3
 unfolding wordOf
 returns-3 c = simp (c .before .before .before .before .before .instruction3 .given .1, c .join5 .ensures, c .before .join4 .ensures, c .before .before .before .join3 .ensures)
 
--- src/word.rt:107:1
 returns-4 : tie.Need-returns-4
 unfolding wordOf
 returns-4 c = simp (c .before .before .before .before .instruction4 .given .1, c .join7 .ensures, c .before .before .join6 .ensures)
 
--- src/word.rt:107:1
 returns-5 : tie.Need-returns-5
 unfolding wordOf
 returns-5 c = simp (c .before .before .before .instruction5 .given .1, c .join9 .ensures, c .before .join8 .ensures)
