@@ -5,7 +5,7 @@ use super::sweep::swept;
 use super::text::print;
 use super::text::print_hex;
 
-pub fn print_digests() {
+pub(crate) fn print_digests() {
     print_modes();
     print_decoder();
     print_encoder();

@@ -5,20 +5,20 @@ use core::word::Encoded;
 use core::word::Instruction;
 
 // The digest of no number.
-pub const START: u32 = 0;
+pub(crate) const START: u32 = 0;
 
 fn fold(digest: u32, number: u32) -> u32 {
     (((digest as u64) * 16777619 + (number as u64) + 1) % 4294967291) as u32
 }
 
-pub fn fold_computed(digest: u32, answer: Computed) -> u32 {
+pub(crate) fn fold_computed(digest: u32, answer: Computed) -> u32 {
     let refusal = answer.refusal as u32;
     let result = answer.result as u32;
     let flags = answer.flags as u32;
     fold(digest, refusal * 65536 + result * 256 + flags)
 }
 
-pub fn fold_encoded(digest: u32, answer: Encoded) -> u32 {
+pub(crate) fn fold_encoded(digest: u32, answer: Encoded) -> u32 {
     let refusal = answer.refusal as u32;
     let word = answer.word as u32;
     fold(digest, refusal * 65536 + word)
@@ -43,7 +43,7 @@ fn fold_instruction(digest: u32, instruction: Instruction) -> u32 {
 }
 
 // A refused word counts as one more kind, whose field is the refusal.
-pub fn fold_decoded(digest: u32, answer: Decoded) -> u32 {
+pub(crate) fn fold_decoded(digest: u32, answer: Decoded) -> u32 {
     match answer {
         Decoded::Accepted(instruction) => fold_instruction(digest, instruction),
         Decoded::Refused(refusal) => fold_kind(digest, 5, refusal, 0, 0),

@@ -8,7 +8,7 @@ use core::word::Instruction;
 use core::word::decode;
 
 // Mode; a, b, flags before. "modes 8, 9 and F ignore a, which is 00 in these rows."
-pub fn print_numbers() {
+pub(crate) fn print_numbers() {
     print_row(0x0, 0x80, 0x80, 0x0);
     print_row(0x1, 0x02, 0x03, 0x0);
     print_row(0x7, 0xFF, 0xFC, 0x0);

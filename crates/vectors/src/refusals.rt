@@ -12,7 +12,7 @@ use core::word::Instruction;
 use core::word::decode;
 use core::word::encode;
 
-pub fn print_refusals() {
+pub(crate) fn print_refusals() {
     print_unit(0x10, 0x00);
     print_unit(0x00, 0x10);
     print_unit(0x10, 0x10);

@@ -10,7 +10,7 @@ use core::word::decode;
 use core::word::encode;
 
 // What n stands for.
-pub enum Sweep {
+pub(crate) enum Sweep {
     // a and b of the unit, a byte each; SR is 0 and then 15
     Unit { mode: u8 },
     // the word to decode
@@ -27,7 +27,7 @@ pub enum Sweep {
     I,
 }
 
-pub fn swept(before: u32, sweep: Sweep, last: u16) -> u32 {
+pub(crate) fn swept(before: u32, sweep: Sweep, last: u16) -> u32 {
     let mut digest = before;
     for n in 0..=last {
         digest = fold_at(digest, sweep, n);

@@ -1,15 +1,15 @@
 // Text on standard output.
 use libc::STDOUT_FILENO;
 
-pub fn print(text: &[u8]) {
+pub(crate) fn print(text: &[u8]) {
     io::write_all(STDOUT_FILENO, text);
 }
 
-pub fn print_decimal(number: u8) {
+pub(crate) fn print_decimal(number: u8) {
     io::print_decimal(STDOUT_FILENO, number as u64);
 }
 
 // Lower case, with zeros in front up to so many digits.
-pub fn print_hex(number: u32, digits: usize) {
+pub(crate) fn print_hex(number: u32, digits: usize) {
     io::print_hex(STDOUT_FILENO, number as u64, digits);
 }
