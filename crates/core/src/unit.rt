@@ -177,7 +177,7 @@ fn refused(refusal: u8) -> Computed
     }
 }
 
-// Refuses 14, then 13.
+// Result and flags of a mode on a and b, after the flags in SR. Refuses 14: mode above 15; then 13: SR above 15.
 pub fn unit(mode: u8, a: u8, b: u8, sr: u8) -> Computed
     ensures { λ r. ⌜ UnitPromise mode a b sr r ⌝ }
 {

@@ -75,7 +75,7 @@ fn instruction_at(word: u16) -> Instruction
     }
 }
 
-// Refuses 10.
+// The instruction at a word. Refuses 10: word above 4095.
 pub fn decode(word: u16) -> Decoded
     ensures { λ r. ⌜ DecodePromise word r ⌝ }
 {
@@ -126,7 +126,7 @@ fn word_of(instruction: Instruction) -> u16
     }
 }
 
-// Refuses 14.
+// The word of an instruction. Refuses 14: a field outside its range.
 pub fn encode(instruction: Instruction) -> Encoded
     ensures { λ r. ⌜ EncodePromise instruction r ⌝ }
 {
