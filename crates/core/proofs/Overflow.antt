@@ -52,10 +52,12 @@ signed-sub byte = go (isSet 7 byte) refl
 abbrev lifted : ℕ → ℕ
 lifted byte = lift (isSet 7 byte)
 
-outside-sum : (a b : ℕ) → outside (signed a +ℤ signed b) ≡ (ltb (a + b + 128) (lifted a + lifted b) || ltb (lifted a + lifted b + 127) (a + b))
+outside-sum : (a b : ℕ)
+    → outside (signed a +ℤ signed b) ≡ (ltb (a + b + 128) (lifted a + lifted b) || ltb (lifted a + lifted b + 127) (a + b))
 outside-sum a b = rw (signed-sub a, signed-sub b, sum-sub a (lifted a) b (lifted b)) (outside-sub (a + b) (lifted a + lifted b))
 
-outside-difference : (a b : ℕ) → outside (signed a -ℤ signed b) ≡ (ltb (a + lifted b + 128) (lifted a + b) || ltb (lifted a + b + 127) (a + lifted b))
+outside-difference : (a b : ℕ)
+    → outside (signed a -ℤ signed b) ≡ (ltb (a + lifted b + 128) (lifted a + b) || ltb (lifted a + b + 127) (a + lifted b))
 outside-difference a b =
     rw (signed-sub a, signed-sub b, neg-sub b (lifted b), sum-sub a (lifted a) (lifted b) b) (outside-sub (a + lifted b) (lifted a + b))
 
@@ -88,14 +90,16 @@ module _ (a b : ℕ) (ha : a < 256) (hb : b < 256) where
   sum-cases s h false false true x y z = sym (beyond (a + b) 0 (omega arith))
   sum-cases s h false false false x y z = sym (within (a + b) 0 (omega arith) (omega arith))
 
-  pub sum-signs : (s : ℕ) → s < 256 → s ≡ (a + b) % 256 → (differ (isSet 7 a) (isSet 7 s) && differ (isSet 7 b) (isSet 7 s)) ≡ outside (signed a +ℤ signed b)
+  pub sum-signs : (s : ℕ) → s < 256 → s ≡ (a + b) % 256
+      → (differ (isSet 7 a) (isSet 7 s) && differ (isSet 7 b) (isSet 7 s)) ≡ outside (signed a +ℤ signed b)
   sum-signs s hs h =
       sum-cases s h (isSet 7 a) (isSet 7 b) (isSet 7 s) (side a ha) (side b hb) (side s hs)
       ∙ sym (outside-sum a b)
 
   -- a difference d is outside if adding b to it again is
   difference-cases : (d : ℕ) → (d + b) % 256 ≡ a → d < 256 → (p q r : Bool) → Side p a → Side q b → Side r d
-      → (ltb (d + b + 128) (lift r + lift q) || ltb (lift r + lift q + 127) (d + b)) ≡ (ltb (a + lift q + 128) (lift p + b) || ltb (lift p + b + 127) (a + lift q))
+      → (ltb (d + b + 128) (lift r + lift q) || ltb (lift r + lift q + 127) (d + b))
+      ≡ (ltb (a + lift q + 128) (lift p + b) || ltb (lift p + b + 127) (a + lift q))
   difference-cases d h l true true true x y z =
       within (d + b) 512 (omega arith) (omega arith) ∙ sym (within (a + 256) (256 + b) (omega arith) (omega arith))
   difference-cases d h l true true false x y z =

@@ -61,10 +61,12 @@ abbrev StandsIn : ℕ → Instruction → Type 0
 StandsIn word i = (inRange i ≡ true) × (wordOf i ≡ word)
 
 -- a word of the kind M is its fields, over plain numbers
-sum : (d mode cell : ℕ) {top bottom word : ℕ} → top ≡ 2 + d → bottom ≡ mode * 16 + cell → word ≡ top * 256 + bottom → (2 + d) * 256 + (mode * 16 + cell) ≡ word
+sum : (d mode cell : ℕ) {top bottom word : ℕ}
+    → top ≡ 2 + d → bottom ≡ mode * 16 + cell → word ≡ top * 256 + bottom → (2 + d) * 256 + (mode * 16 + cell) ≡ word
 sum d mode cell e f g = omega arith
 
-M-word : (word : ℕ) → 0b0010 ≤ bits 11 8 word → bits 11 8 word ≤ 0b0011 → word ≤ 4095 → (2 + bits 8 8 word) * 256 + (bits 7 4 word * 16 + bits 3 0 word) ≡ word
+M-word : (word : ℕ) → 0b0010 ≤ bits 11 8 word → bits 11 8 word ≤ 0b0011 → word ≤ 4095
+    → (2 + bits 8 8 word) * 256 + (bits 7 4 word * 16 + bits 3 0 word) ≡ word
 M-word word lo hi h =
     let whole : word ≡ word / 2 ^ 0 % 2 ^ 12 = omega arith in
     let top : bits 11 8 word ≡ 2 + bits 8 8 word = omega arith in
@@ -83,7 +85,8 @@ stands word h (is-I lo) =
     rw (at-I word lo) (simp (lt-ltb (bits 10 8 word) 8 (omega arith), lt-ltb (bits 7 0 word) 256 (omega arith)), omega arith)
 
 -- EVERY WORD 0 TO 4095 decodes to an instruction, and encoding that gives the word back
-pub word-back : (word : ℕ) → word ≤ 4095 → (i : Instruction) × (decoded word ≡ Decoded.Accepted i) × (encoded i ≡ encodedAs accepted word)
+pub word-back : (word : ℕ) → word ≤ 4095
+    → (i : Instruction) × (decoded word ≡ Decoded.Accepted i) × (encoded i ≡ encodedAs accepted word)
 word-back word h =
     let s = stands word h (kind word) in
     (instructionAt word, word-accepted word h, rw (s .1) at (instruction-accepted (instructionAt word) (s .0)))
@@ -118,7 +121,8 @@ cut-again (I mode immediate) h =
     (omega arith, at-I w lo ∙ rw (e, g))
 
 -- EVERY INSTRUCTION IN RANGE encodes to a word, and decoding that gives the instruction back
-pub instruction-back : (i : Instruction) → inRange i ≡ true → (word : ℕ) × (encoded i ≡ encodedAs accepted word) × (decoded word ≡ Decoded.Accepted i)
+pub instruction-back : (i : Instruction) → inRange i ≡ true
+    → (word : ℕ) × (encoded i ≡ encodedAs accepted word) × (decoded word ≡ Decoded.Accepted i)
 instruction-back i h =
     let c = cut-again i (in-range i h) in
     (wordOf i, instruction-accepted i h, word-accepted (wordOf i) (c .0) ∙ ap Decoded.Accepted (c .1))

@@ -13,7 +13,8 @@ use Rattle.core.proofs.Finite.{left, right, all, each, all2, each2}
 abbrev agree : (ℕ → ℕ → ℕ) → (ℕ → ℕ → ℕ) → ℕ → ℕ → Bool
 agree f g b n = eqb (f b n) (g b n) && ltb (g b n) 256
 
-same-byte : (f g : ℕ → ℕ → ℕ) (counts : ℕ) → T (all2 (agree f g) 256 counts) → (b n : ℕ) → b < 256 → n < counts → (f b n ≡ g b n) × (f b n < 256)
+same-byte : (f g : ℕ → ℕ → ℕ) (counts : ℕ) → T (all2 (agree f g) 256 counts)
+    → (b n : ℕ) → b < 256 → n < counts → (f b n ≡ g b n) × (f b n < 256)
 same-byte f g counts t b n hb hn =
     let s = each2 (agree f g) 256 counts t b n hb hn in
     let e : f b n ≡ g b n = eqb→eq _ _ (left (eqb (f b n) (g b n)) (ltb (g b n) 256) s) in

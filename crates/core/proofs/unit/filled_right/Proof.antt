@@ -5,15 +5,6 @@ use Rattle.core.proofs.Shift.{fills}
 use Rattle.core.proofs.unit.filled_right.Statement.{statement}
 use Rattle.core.proofs.unit.filled_right.Tie as tie
 
-mul-extended : tie.Need-mul-extended
-mul-extended c = search needs
-
-add-extended : tie.Need-add-extended
-add-extended c = search needs
-
-shr-result : tie.Need-shr-result
-shr-result c = search needs
-
 cast-result : tie.Need-cast-result
 cast-result c = record { fits = fills (c .args .b) (c .args .n) (search needs) (c .pre) .1 }
 
@@ -21,4 +12,4 @@ returns : tie.Need-returns
 returns c = fills (c .args .b) (c .args .n) (search needs) (c .pre) .0
 
 pub filled-right-spec : {M : Type 1} → statement M
-filled-right-spec = tie.close (tie.spec mul-extended add-extended shr-result cast-result returns)
+filled-right-spec = tie.close (tie.spec (λ c. search needs) (λ c. search needs) (λ c. search needs) cast-result returns)

@@ -6,11 +6,8 @@ use lib.Bits.{and-mask}
 use Rattle.core.proofs.unit.is_set.Statement.{statement}
 use Rattle.core.proofs.unit.is_set.Tie as tie
 
-shr-result : tie.Need-shr-result
-shr-result c = search needs
-
 returns : tie.Need-returns
 returns c = rw (and-mask (c .args .byte / 2 ^ c .args .k) 1)
 
 pub is-set-spec : {M : Type 1} → statement M
-is-set-spec = tie.close (tie.spec shr-result returns)
+is-set-spec = tie.close (tie.spec (λ c. search needs) returns)

@@ -5,11 +5,8 @@ use Rattle.core.proofs.Shift.{merges}
 use Rattle.core.proofs.unit.merge.Statement.{statement}
 use Rattle.core.proofs.unit.merge.Tie as tie
 
-sub-result : tie.Need-sub-result
-sub-result c = search needs
-
 returns : tie.Need-returns
 returns c = merges (c .args .sets) (c .args .new) (c .args .before) (c .pre .0) (c .pre .1) (c .pre .2)
 
 pub merge-spec : {M : Type 1} → statement M
-merge-spec = tie.close (tie.spec sub-result returns)
+merge-spec = tie.close (tie.spec (λ c. search needs) returns)

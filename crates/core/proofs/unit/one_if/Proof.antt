@@ -10,9 +10,6 @@ use Rattle.core.specs.Unit.{oneIf}
 use Rattle.core.proofs.unit.one_if.Statement.{statement}
 use Rattle.core.proofs.unit.one_if.Tie as tie
 
-cast-result : tie.Need-cast-result
-cast-result c = search needs
-
 bit : (t : Bool) → (boolByte t ≡ oneIf t) × (boolByte t < 2)
 bit true = (refl, lit< tt)
 bit false = (refl, lit< tt)
@@ -21,4 +18,4 @@ returns : tie.Need-returns
 returns c = bit (c .args .test)
 
 pub one-if-spec : {M : Type 1} → statement M
-one-if-spec = tie.close (tie.spec cast-result returns)
+one-if-spec = tie.close (tie.spec (λ c. search needs) returns)

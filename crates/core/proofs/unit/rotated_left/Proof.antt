@@ -5,9 +5,6 @@ use Rattle.core.proofs.Shift.{turns}
 use Rattle.core.proofs.unit.rotated_left.Statement.{statement}
 use Rattle.core.proofs.unit.rotated_left.Tie as tie
 
-shl-turned : tie.Need-shl-turned
-shl-turned c = search needs
-
 cast-result : tie.Need-cast-result
 cast-result c = record { fits = turns (c .args .b) (c .args .n) (search needs) (c .pre) .1 }
 
@@ -15,4 +12,4 @@ returns : tie.Need-returns
 returns c = turns (c .args .b) (c .args .n) (search needs) (c .pre) .0
 
 pub rotated-left-spec : {M : Type 1} → statement M
-rotated-left-spec = tie.close (tie.spec shl-turned cast-result returns)
+rotated-left-spec = tie.close (tie.spec (λ c. search needs) cast-result returns)

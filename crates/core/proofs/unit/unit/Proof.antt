@@ -9,28 +9,13 @@ use Rattle.core.proofs.Masks.{masked}
 use Rattle.core.proofs.unit.unit.Statement.{statement}
 use Rattle.core.proofs.unit.unit.Tie as tie
 
-refused-requires : tie.Need-refused-requires
-refused-requires c κs = search needs
-
 returns : tie.Need-returns
 unfolding computed
-returns c = simp (lt-ltb 15 (c .before .before .args .mode) (c .before .if1 .taken), c .refused .ensures)
-
-refused-requires-2 : tie.Need-refused-requires-2
-refused-requires-2 c κs = search needs
+returns c = simp (lt-ltb _ _ (c .before .if1 .taken), c .refused .ensures)
 
 returns-2 : tie.Need-returns-2
 unfolding computed
-returns-2 c = simp (le-ltb 15 (c .before .before .before .args .mode) (c .before .before .if1 .left), lt-ltb 15 (c .before .before .before .args .sr) (c .before .if2 .taken), c .refused2 .ensures)
-
-row-at-requires : tie.Need-row-at-requires
-row-at-requires c κs = search needs
-
-is-set-requires : tie.Need-is-set-requires
-is-set-requires c κs = search needs
-
-pack-requires : tie.Need-pack-requires
-pack-requires c κs = search needs
+returns-2 c = simp (le-ltb _ _ (c .before .before .if1 .left), lt-ltb _ _ (c .before .if2 .taken), c .refused2 .ensures)
 
 merge-requires : tie.Need-merge-requires
 merge-requires c κs =
@@ -40,18 +25,21 @@ merge-requires c κs =
 
 returns-3 : tie.Need-returns-3
 unfolding computed unitResult unitFlags
-returns-3 c = simp (le-ltb 15 (c .before .before .before .before .before .before .args .mode) (c .before .before .before .before .before .if1 .left), le-ltb 15 (c .before .before .before .before .before .before .args .sr) (c .before .before .before .before .if2 .left), c .merge .ensures, c .before .pack .ensures .0, c .before .before .is-set .ensures, c .before .before .before .row-at .ensures)
+returns-3 c =
+    let row = c .before .before .before .row-at in
+    let accepted = c .before .before .before .before in
+    simp (le-ltb _ _ (accepted .before .if1 .left), le-ltb _ _ (accepted .if2 .left), c .merge .ensures, c .before .pack .ensures .0, c .before .before .is-set .ensures, row .ensures)
 
 pub unit-spec : {M : Type 1} → statement M
 unit-spec =
     tie.close
     (tie.spec
-    refused-requires
+    (λ c κs. search needs)
     returns
-    refused-requires-2
+    (λ c κs. search needs)
     returns-2
-    row-at-requires
-    is-set-requires
-    pack-requires
+    (λ c κs. search needs)
+    (λ c κs. search needs)
+    (λ c κs. search needs)
     merge-requires
     returns-3)

@@ -6,17 +6,8 @@ use Rattle.core.proofs.Field.{mask-fits, cut, bits-lt}
 use Rattle.core.proofs.word.bits.Statement.{statement}
 use Rattle.core.proofs.word.bits.Tie as tie
 
-sub-mask : tie.Need-sub-mask
-sub-mask c = search needs
-
-shl-mask : tie.Need-shl-mask
-shl-mask c = search needs
-
 sub-mask-2 : tie.Need-sub-mask-2
 sub-mask-2 c = mask-fits 16 (c .args .high) (c .args .low) (omega arith) (omega arith)
-
-shr-result : tie.Need-shr-result
-shr-result c = search needs
 
 cast-result : tie.Need-cast-result
 cast-result c =
@@ -30,4 +21,4 @@ returns : tie.Need-returns
 returns c = cut 16 (c .args .high) (c .args .low) (omega arith) (omega arith) (c .args .word)
 
 pub bits-spec : {M : Type 1} → statement M
-bits-spec = tie.close (tie.spec sub-mask shl-mask sub-mask-2 shr-result cast-result returns)
+bits-spec = tie.close (tie.spec (λ c. search needs) (λ c. search needs) sub-mask-2 (λ c. search needs) cast-result returns)

@@ -6,9 +6,6 @@ use Rattle.core.specs.Word.{encoded}
 use Rattle.core.proofs.word.encode.Statement.{statement}
 use Rattle.core.proofs.word.encode.Tie as tie
 
-in-range-requires : tie.Need-in-range-requires
-in-range-requires c κs = search needs
-
 word-of-requires : tie.Need-word-of-requires
 word-of-requires c κs = sym (c .before .in-range .ensures) ∙ c .if1 .taken
 
@@ -22,4 +19,4 @@ unfolding encoded
 returns-2 c = simp (sym (c .before .in-range .ensures) ∙ c .if1 .left)
 
 pub encode-spec : {M : Type 1} → statement M
-encode-spec = tie.close (tie.spec in-range-requires word-of-requires returns returns-2)
+encode-spec = tie.close (tie.spec (λ c κs. search needs) word-of-requires returns returns-2)

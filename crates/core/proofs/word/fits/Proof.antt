@@ -6,11 +6,8 @@ use Rattle.core.proofs.Field.{power}
 use Rattle.core.proofs.word.fits.Statement.{statement}
 use Rattle.core.proofs.word.fits.Tie as tie
 
-shl-result : tie.Need-shl-result
-shl-result c = search needs
-
 returns : tie.Need-returns
 returns c = rw (power (c .args .width) 16 (omega arith))
 
 pub fits-spec : {M : Type 1} → statement M
-fits-spec = tie.close (tie.spec shl-result returns)
+fits-spec = tie.close (tie.spec (λ c. search needs) returns)

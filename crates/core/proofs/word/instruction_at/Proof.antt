@@ -6,36 +6,6 @@ use Rattle.core.proofs.Kind.{at-S, at-Goto, at-M, at-JumpIf, at-I}
 use Rattle.core.proofs.word.instruction_at.Statement.{statement}
 use Rattle.core.proofs.word.instruction_at.Tie as tie
 
-bits-requires : tie.Need-bits-requires
-bits-requires c κs = search needs
-
-bits-requires-2 : tie.Need-bits-requires-2
-bits-requires-2 c κs = search needs
-
-bits-requires-3 : tie.Need-bits-requires-3
-bits-requires-3 c κs = search needs
-
-bits-requires-4 : tie.Need-bits-requires-4
-bits-requires-4 c κs = search needs
-
-bits-requires-5 : tie.Need-bits-requires-5
-bits-requires-5 c κs = search needs
-
-bits-requires-6 : tie.Need-bits-requires-6
-bits-requires-6 c κs = search needs
-
-bits-requires-7 : tie.Need-bits-requires-7
-bits-requires-7 c κs = search needs
-
-bits-requires-8 : tie.Need-bits-requires-8
-bits-requires-8 c κs = search needs
-
-bits-requires-9 : tie.Need-bits-requires-9
-bits-requires-9 c κs = search needs
-
-bits-requires-10 : tie.Need-bits-requires-10
-bits-requires-10 c κs = search needs
-
 returns : tie.Need-returns
 returns c = rw (at-S (c .before .before .before .args .word) (omega arith), c .bits2 .ensures)
 
@@ -61,16 +31,16 @@ pub instruction-at-spec : {M : Type 1} → statement M
 instruction-at-spec =
     tie.close
     (tie.spec
-    bits-requires
-    bits-requires-2
-    bits-requires-3
-    bits-requires-4
-    bits-requires-5
-    bits-requires-6
-    bits-requires-7
-    bits-requires-8
-    bits-requires-9
-    bits-requires-10
+    (λ c κs. search needs)
+    (λ c κs. search needs)
+    (λ c κs. search needs)
+    (λ c κs. search needs)
+    (λ c κs. search needs)
+    (λ c κs. search needs)
+    (λ c κs. search needs)
+    (λ c κs. search needs)
+    (λ c κs. search needs)
+    (λ c κs. search needs)
     returns
     returns-2
     returns-3

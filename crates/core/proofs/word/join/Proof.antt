@@ -7,11 +7,8 @@ use Rattle.core.proofs.Field.{joined}
 use Rattle.core.proofs.word.join.Statement.{statement}
 use Rattle.core.proofs.word.join.Tie as tie
 
-shl-result : tie.Need-shl-result
-shl-result c = search needs
-
 returns : tie.Need-returns
 returns c = joined (16 - c .args .width) (c .args .width) 16 (omega arith) (c .pre .1) (c .pre .2)
 
 pub join-spec : {M : Type 1} → statement M
-join-spec = tie.close (tie.spec shl-result returns)
+join-spec = tie.close (tie.spec (λ c. search needs) returns)

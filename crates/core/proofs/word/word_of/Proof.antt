@@ -7,38 +7,8 @@ use Rattle.core.proofs.Range.{in-range-as}
 use Rattle.core.proofs.word.word_of.Statement.{statement}
 use Rattle.core.proofs.word.word_of.Tie as tie
 
-enum-known-instruction : tie.Need-enum-known-instruction
-enum-known-instruction c = search needs
-
-cast-join : tie.Need-cast-join
-cast-join c = search needs
-
-join-requires : tie.Need-join-requires
-join-requires c κs = search needs
-
-enum-known-instruction-2 : tie.Need-enum-known-instruction-2
-enum-known-instruction-2 c = search needs
-
-cast-join-2 : tie.Need-cast-join-2
-cast-join-2 c = search needs
-
-join-requires-2 : tie.Need-join-requires-2
-join-requires-2 c κs = search needs
-
-enum-known-instruction-3 : tie.Need-enum-known-instruction-3
-enum-known-instruction-3 c = search needs
-
-cast-join-3 : tie.Need-cast-join-3
-cast-join-3 c = search needs
-
 join-requires-3 : tie.Need-join-requires-3
 join-requires-3 c κs = let h = in-range-as _ _ (c .before .instruction3 .given .1) (c .before .before .before .pre) in omega arith
-
-cast-join-4 : tie.Need-cast-join-4
-cast-join-4 c = search needs
-
-cast-join-5 : tie.Need-cast-join-5
-cast-join-5 c = search needs
 
 join-requires-4 : tie.Need-join-requires-4
 join-requires-4 c κs = let h = in-range-as _ _ (c .before .before .before .instruction3 .given .1) (c .before .before .before .before .before .pre) in omega arith
@@ -46,32 +16,14 @@ join-requires-4 c κs = let h = in-range-as _ _ (c .before .before .before .inst
 join-requires-5 : tie.Need-join-requires-5
 join-requires-5 c κs = let h = in-range-as _ _ (c .before .before .before .before .instruction3 .given .1) (c .before .before .before .before .before .before .pre) in omega arith
 
-enum-known-instruction-4 : tie.Need-enum-known-instruction-4
-enum-known-instruction-4 c = search needs
-
-cast-join-6 : tie.Need-cast-join-6
-cast-join-6 c = search needs
-
 join-requires-6 : tie.Need-join-requires-6
 join-requires-6 c κs = let h = in-range-as _ _ (c .before .instruction4 .given .1) (c .before .before .before .pre) in omega arith
-
-cast-join-7 : tie.Need-cast-join-7
-cast-join-7 c = search needs
 
 join-requires-7 : tie.Need-join-requires-7
 join-requires-7 c κs = let h = in-range-as _ _ (c .before .before .before .instruction4 .given .1) (c .before .before .before .before .before .pre) in omega arith
 
-enum-known-instruction-5 : tie.Need-enum-known-instruction-5
-enum-known-instruction-5 c = search needs
-
-cast-join-8 : tie.Need-cast-join-8
-cast-join-8 c = search needs
-
 join-requires-8 : tie.Need-join-requires-8
 join-requires-8 c κs = let h = in-range-as _ _ (c .before .instruction5 .given .1) (c .before .before .before .pre) in omega arith
-
-cast-join-9 : tie.Need-cast-join-9
-cast-join-9 c = search needs
 
 join-requires-9 : tie.Need-join-requires-9
 join-requires-9 c κs = let h = in-range-as _ _ (c .before .before .instruction5 .given .1) (c .before .before .before .before .pre) in omega arith
@@ -100,28 +52,28 @@ pub word-of-spec : {M : Type 1} → statement M
 word-of-spec =
     tie.close
     (tie.spec
-    enum-known-instruction
-    cast-join
-    join-requires
-    enum-known-instruction-2
-    cast-join-2
-    join-requires-2
-    enum-known-instruction-3
-    cast-join-3
+    (λ c. search needs)
+    (λ c. search needs)
+    (λ c κs. search needs)
+    (λ c. search needs)
+    (λ c. search needs)
+    (λ c κs. search needs)
+    (λ c. search needs)
+    (λ c. search needs)
     join-requires-3
-    cast-join-4
-    cast-join-5
+    (λ c. search needs)
+    (λ c. search needs)
     join-requires-4
     join-requires-5
-    enum-known-instruction-4
-    cast-join-6
+    (λ c. search needs)
+    (λ c. search needs)
     join-requires-6
-    cast-join-7
+    (λ c. search needs)
     join-requires-7
-    enum-known-instruction-5
-    cast-join-8
+    (λ c. search needs)
+    (λ c. search needs)
     join-requires-8
-    cast-join-9
+    (λ c. search needs)
     join-requires-9
     returns
     returns-2
