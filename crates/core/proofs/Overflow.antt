@@ -9,7 +9,8 @@ use native.Mathlib.Omega.{arith}
 use borrow.Author.Tests.{lt-ltb, le-ltb, ltb-true, ltb-false, eq-eqb, ne-eqb}
 use lib.Dec.{ltb}
 use lib.IntN.{subℕ, _+ℤ_, _-ℤ_}
-use Rattle.core.specs.Unit.{isSet, signed, outside}
+use Rattle.core.specs.Unit.{signed, outside}
+use Rattle.core.specs.Word.{isSet}
 use Rattle.core.proofs.Difference.{sum-sub, neg-sub}
 
 -- a difference of two numbers is outside -128..127

@@ -10,7 +10,7 @@ use lib.IntN.{ℤ, pos, negℤ, _+ℤ_, _-ℤ_}
 use lib.ListN.{getD}
 use lib.Signed.{ltZ}
 use Rattle.core.specs.Refusal.{accepted, registerOutOfRange, fieldOutOfRange, check, firstBroken}
-use Rattle.core.specs.Word.{flagO, flagS, flagC, flagZ}
+use Rattle.core.specs.Word.{isSet, flagO, flagS, flagC, flagZ}
 use Rattle.core.specs.declared.unit.UnitRow.{UnitRow}
 use Rattle.core.specs.declared.unit.Computed.{Computed}
 
@@ -20,10 +20,6 @@ plus a b = (a + b) % 256
 
 abbrev pub minus : ℕ → ℕ → ℕ
 minus a b = (a + 256 - b) % 256
-
--- bit k of a byte, or flag k of SR or of a mask of flags
-abbrev pub isSet : ℕ → ℕ → Bool
-isSet k number = eqb (number / 2 ^ k % 2) 1
 
 -- the two's complement value of a byte
 abbrev pub signed : ℕ → ℤ

@@ -24,6 +24,10 @@ dataAddress n = record { 0 = n }
 abbrev pub bits : ℕ → ℕ → ℕ → ℕ
 bits high low word = word / 2 ^ low % 2 ^ (high + 1 - low)
 
+-- bit k of a word or a byte, and flag k of SR or of a mask of flags
+abbrev pub isSet : ℕ → ℕ → Bool
+isSet k number = eqb (number / 2 ^ k % 2) 1
+
 -- The table of words, in its order. The pattern of bits 11..8 picks the kind:
 --     0000  S                k = bits 7..0
 --     0001  GOTO             target = bits 7..0
