@@ -301,9 +301,9 @@ def encoder_numbers():
 
 def print_digests():
     for mode in range(16):
-        print(f"mode {mode:x}: {digest(unit_numbers(mode))}")
-    print(f"decode: {digest(decoder_numbers())}")
-    print(f"encode: {digest(encoder_numbers())}")
+        print(f"digest of mode {mode:x}: {digest(unit_numbers(mode))}")
+    print(f"digest of decode: {digest(decoder_numbers())}")
+    print(f"digest of encode: {digest(encoder_numbers())}")
 
 
 if __name__ == "__main__":

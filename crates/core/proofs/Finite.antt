@@ -1,4 +1,5 @@
--- A test of every number below a bound, which the checker computes, and the law that turns it into the rule at each.
+-- Finitely many cases. A test of every number below a bound, or of every pair, which the checker computes, and the law that turns it into
+-- the rule at each; proofs for a list, side by side; and a number that is none of the first k, where a match has used them up.
 -- Assumes nothing.
 use Prim.Native.Nat.{ℕ, zero, suc, _<_, _≤_, zero-le}
 use mathlib.Core.Bool.{Bool, true, false, _&&_}
@@ -37,11 +38,11 @@ each f (suc n) t k h =
     (same k n (eqb k n) refl)
 
 -- the same over pairs
-abbrev pub all2 : (ℕ → ℕ → Bool) → ℕ → ℕ → Bool
-all2 f m n = all (λ i. all (f i) n) m
+abbrev pub all-pairs : (ℕ → ℕ → Bool) → ℕ → ℕ → Bool
+all-pairs f m n = all (λ i. all (f i) n) m
 
-pub each2 : (f : ℕ → ℕ → Bool) (m n : ℕ) → T (all2 f m n) → (i j : ℕ) → i < m → j < n → T (f i j)
-each2 f m n t i j hi hj = each (f i) n (each (λ k. all (f k) n) m t i hi) j hj
+pub each-pair : (f : ℕ → ℕ → Bool) (m n : ℕ) → T (all-pairs f m n) → (i j : ℕ) → i < m → j < n → T (f i j)
+each-pair f m n t i j hi hj = each (f i) n (each (λ k. all (f k) n) m t i hi) j hj
 
 -- a number that is none of the first k, as the last arm of a match on numbers has it
 abbrev pub NoneOf : ℕ → ℕ → Type 0

@@ -2,8 +2,8 @@ pub mod Determined
 pub mod Difference
 pub mod Field
 pub mod Finite
+pub mod Flags
 pub mod Kind
-pub mod Masks
 pub mod Overflow
 pub mod Range
 pub mod RoundTrip

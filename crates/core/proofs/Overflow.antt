@@ -118,8 +118,8 @@ module _ (a b : ℕ) (ha : a < 256) (hb : b < 256) where
   difference-cases d h l false false false x y z =
       within (d + b) 0 (omega arith) (omega arith) ∙ sym (within (a + 0) (0 + b) (omega arith) (omega arith))
 
-  pub difference-signs : (d : ℕ) → d < 256 → (d + b) % 256 ≡ a → outside (signed d +ℤ signed b) ≡ outside (signed a -ℤ signed b)
-  difference-signs d l h =
+  pub outside-again : (d : ℕ) → d < 256 → (d + b) % 256 ≡ a → outside (signed d +ℤ signed b) ≡ outside (signed a -ℤ signed b)
+  outside-again d l h =
       outside-sum d b
       ∙ difference-cases d h l (isSet 7 a) (isSet 7 b) (isSet 7 d) (side a ha) (side b hb) (side d l)
       ∙ sym (outside-difference a b)

@@ -9,12 +9,12 @@ use Rattle.core.specs.Word.{fits, inRange}
 use Rattle.core.specs.declared.word.Instruction.{Instruction}
 use Rattle.core.specs.declared.word.Instruction.the-variants.{S, Goto, M, JumpIf, I}
 
-abbrev pub InRange : Instruction → Type 0
-InRange (S k) = k < 2 ^ 8
-InRange (Goto target) = target .0 < 2 ^ 8
-InRange (M d mode cell) = (d < 2 ^ 1) × (mode < 2 ^ 4) × (cell .0 < 2 ^ 4)
-InRange (JumpIf f target) = (f < 2 ^ 2) × (target .0 < 2 ^ 8)
-InRange (I mode immediate) = (mode < 2 ^ 3) × (immediate < 2 ^ 8)
+abbrev pub FieldsFit : Instruction → Type 0
+FieldsFit (S k) = k < 2 ^ 8
+FieldsFit (Goto target) = target .0 < 2 ^ 8
+FieldsFit (M d mode cell) = (d < 2 ^ 1) × (mode < 2 ^ 4) × (cell .0 < 2 ^ 4)
+FieldsFit (JumpIf f target) = (f < 2 ^ 2) × (target .0 < 2 ^ 8)
+FieldsFit (I mode immediate) = (mode < 2 ^ 3) × (immediate < 2 ^ 8)
 
 both : (p q : Bool) → (p && q) ≡ true → (p ≡ true) × (q ≡ true)
 both true q e = (refl, e)
@@ -26,17 +26,17 @@ fitting width field e = ltb-true field (2 ^ width) e
 two : (v w x y : ℕ) → (fits v x && fits w y) ≡ true → (x < 2 ^ v) × (y < 2 ^ w)
 two v w x y e = let h = both (fits v x) (fits w y) e in (fitting v x (h .0), fitting w y (h .1))
 
-pub in-range : (i : Instruction) → inRange i ≡ true → InRange i
+pub fields-fit : (i : Instruction) → inRange i ≡ true → FieldsFit i
 unfolding inRange
-in-range (S k) e = fitting 8 k e
-in-range (Goto target) e = fitting 8 (target .0) e
-in-range (M d mode cell) e =
+fields-fit (S k) e = fitting 8 k e
+fields-fit (Goto target) e = fitting 8 (target .0) e
+fields-fit (M d mode cell) e =
     let h = both (fits 1 d && fits 4 mode) (fits 4 (cell .0)) e in
     let g = two 1 4 d mode (h .0) in
     (g .0, g .1, fitting 4 (cell .0) (h .1))
-in-range (JumpIf f target) e = two 2 8 f (target .0) e
-in-range (I mode immediate) e = two 3 8 mode immediate e
+fields-fit (JumpIf f target) e = two 2 8 f (target .0) e
+fields-fit (I mode immediate) e = two 3 8 mode immediate e
 
 -- the same, where the instruction is known by its kind
-pub in-range-as : (i j : Instruction) → i ≡ j → inRange i ≡ true → InRange j
-in-range-as i j e h = in-range j (rw e at h)
+pub fields-fit-as : (i j : Instruction) → i ≡ j → inRange i ≡ true → FieldsFit j
+fields-fit-as i j e h = fields-fit j (rw e at h)

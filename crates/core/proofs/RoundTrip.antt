@@ -16,7 +16,7 @@ use Rattle.core.specs.declared.word.Instruction.{Instruction}
 use Rattle.core.specs.declared.word.Instruction.the-variants.{S, Goto, M, JumpIf, I}
 use Rattle.core.proofs.Field.{neighbours}
 use Rattle.core.proofs.Kind.{at-S, at-Goto, at-M, at-JumpIf, at-I, Kind, is-S, is-Goto, is-M, is-JumpIf, is-I, kind}
-use Rattle.core.proofs.Range.{InRange, in-range}
+use Rattle.core.proofs.Range.{FieldsFit, fields-fit}
 
 -- what is accepted, and what it then is
 word-accepted : (word : ℕ) → word ≤ 4095 → decoded word ≡ Decoded.Accepted (instructionAt word)
@@ -43,18 +43,24 @@ decoder-refuses word n = (there, λ h. rw (h .1) (word-refused word (h .0)))
     there e =
         elim (decLt 4095 word) [
           | yes h ↦ (h, let r = word-refused word h in cc)
-          | no n ↦ let r = word-accepted word (omega arith) in let z : _≡_ {A = ℕ} 0 1 = cc in absurd (omega arith)
+          | no h ↦ let r = word-accepted word (omega arith) in let z : _≡_ {A = ℕ} 0 1 = cc in absurd (omega arith)
         ]
 
--- THE ENCODER REFUSES EXACTLY the instructions with a field outside its range, and always with 14
-pub encoder-refuses : (i : Instruction) → (encoded i .refusal ≡ fieldOutOfRange) ↔ (inRange i ≡ false)
-encoder-refuses i = (there (inRange i) refl, λ h. rw (instruction-refused i h))
+-- THE ENCODER ACCEPTS EXACTLY the instructions in range, and refuses every other with 14
+pub encoder-refuses : (i : Instruction)
+    → ((encoded i .refusal ≡ accepted) ↔ (inRange i ≡ true)) × ((encoded i .refusal ≡ fieldOutOfRange) ↔ (inRange i ≡ false))
+encoder-refuses i = (
+  (accepts (inRange i) refl, λ h. rw (instruction-accepted i h)),
+  (refuses (inRange i) refl, λ h. rw (instruction-refused i h)),
+)
   where
-    there : (t : Bool) → inRange i ≡ t → encoded i .refusal ≡ fieldOutOfRange → inRange i ≡ false
-    there true h e =
-        let z : _≡_ {A = ℕ} 0 14 = rw (instruction-accepted i h) at e in
-        absurd (omega arith)
-    there false h e = h
+    accepts : (t : Bool) → inRange i ≡ t → encoded i .refusal ≡ accepted → inRange i ≡ true
+    accepts true h e = h
+    accepts false h e = let z : _≡_ {A = ℕ} 14 0 = rw (instruction-refused i h) at e in absurd (omega arith)
+
+    refuses : (t : Bool) → inRange i ≡ t → encoded i .refusal ≡ fieldOutOfRange → inRange i ≡ false
+    refuses true h e = let z : _≡_ {A = ℕ} 0 14 = rw (instruction-accepted i h) at e in absurd (omega arith)
+    refuses false h e = h
 
 -- an instruction is the one whose fields stand in a word
 abbrev StandsIn : ℕ → Instruction → Type 0
@@ -92,7 +98,7 @@ word-back word h =
     (instructionAt word, word-accepted word h, rw (s .1) at (instruction-accepted (instructionAt word) (s .0)))
 
 -- the fields of an instruction in range, cut from its word
-cut-again : (i : Instruction) → InRange i → (wordOf i ≤ 4095) × (instructionAt (wordOf i) ≡ i)
+cut-again : (i : Instruction) → FieldsFit i → (wordOf i ≤ 4095) × (instructionAt (wordOf i) ≡ i)
 unfolding wordOf
 cut-again (S k) h = (omega arith, at-S (wordOf (S k)) (omega arith) ∙ ap S (omega arith))
 cut-again (Goto target) h =
@@ -124,5 +130,5 @@ cut-again (I mode immediate) h =
 pub instruction-back : (i : Instruction) → inRange i ≡ true
     → (word : ℕ) × (encoded i ≡ encodedAs accepted word) × (decoded word ≡ Decoded.Accepted i)
 instruction-back i h =
-    let c = cut-again i (in-range i h) in
+    let c = cut-again i (fields-fit i h) in
     (wordOf i, instruction-accepted i h, word-accepted (wordOf i) (c .0) ∙ ap Decoded.Accepted (c .1))

@@ -12,7 +12,7 @@ use Rattle.core.proofs.Finite.{_&_}
 pub data Row : Type 0 where
   -- mode; a, b, flags before; result, flags
   unit : (mode a b before result after : ℕ) → Row
-  -- a word is "jump if flag f to the target"
+  -- a word, and the flag and the target of the jump that it is
   jump : (word f target : ℕ) → Row
 
 abbrev pub Met : Row → Type 0

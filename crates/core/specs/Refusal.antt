@@ -8,15 +8,15 @@ use mathlib.Core.List.{List, [], _∷_}
 abbrev pub accepted : ℕ
 accepted = 0
 
--- "10: word above 4095"
+-- 10: "word above 4095"
 abbrev pub wordAbove4095 : ℕ
 wordAbove4095 = 10
 
--- "13: SR above 15 or IR above 4095"
+-- 13: "SR above 15 or IR above 4095"
 abbrev pub registerOutOfRange : ℕ
 registerOutOfRange = 13
 
--- "14: an instruction field or mode outside its range"
+-- 14: "an instruction field or mode outside its range"
 abbrev pub fieldOutOfRange : ℕ
 fieldOutOfRange = 14
 

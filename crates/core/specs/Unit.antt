@@ -67,14 +67,14 @@ zcs = packed true true true false
 abbrev pub zcso : ℕ
 zcso = packed true true true true
 
--- "Z, C if n > 0"
+-- "Z, C if n > 0", and for mode E "S always"
 abbrev pub ifShifted : ℕ → ℕ → ℕ → ℕ
 ifShifted n shifted unshifted = cond (eqb n 0) unshifted shifted
 
 abbrev pub row : ℕ → ℕ → Bool → Bool → UnitRow
 row result sets carry overflow = record { result = result; sets = sets; carry = carry; overflow = overflow }
 
--- The table, a row a mode. "a is operand 1 (Acc), b is operand 2, n = a mod 8."
+-- The table, a row a mode. "a is operand 1 (Acc), b is operand 2, n = a mod 8." Both are bytes, so every result is one.
 -- C of a subtraction is a BORROW: modes 1, 7, 9 and F. A C or an O that the row does not set goes nowhere.
 unfoldable pub table : ℕ → ℕ → ℕ → List UnitRow
 table a b n =
@@ -104,13 +104,13 @@ rowAt mode a b = getD (table a b (a % 8)) mode (row 0 none false false)
 abbrev pub rowFlags : UnitRow → ℕ
 rowFlags r = packed (eqb (r .result) 0) (r .carry) (isSet 7 (r .result)) (r .overflow)
 
--- "Flags not set keep their value": flag f of the new flags if the mask has it, else of those before
+-- "Flags not set keep their value": flag f of the flags given if the mask has it, else of those before
 abbrev pub kept : ℕ → ℕ → ℕ → ℕ → Bool
-kept sets new before f = cond (isSet f sets) (isSet f new) (isSet f before)
+kept sets given before f = cond (isSet f sets) (isSet f given) (isSet f before)
 
 abbrev pub merged : ℕ → ℕ → ℕ → ℕ
-merged sets new before =
-    packed (kept sets new before flagZ) (kept sets new before flagC) (kept sets new before flagS) (kept sets new before flagO)
+merged sets given before =
+    packed (kept sets given before flagZ) (kept sets given before flagC) (kept sets given before flagS) (kept sets given before flagO)
 
 -- result and flags of the unit, where mode and SR are in range
 unfoldable pub unitResult : ℕ → ℕ → ℕ → ℕ

@@ -28,7 +28,7 @@ bits high low word = word / 2 ^ low % 2 ^ (high + 1 - low)
 abbrev pub isSet : ℕ → ℕ → Bool
 isSet k number = eqb (number / 2 ^ k % 2) 1
 
--- The table of words, in its order. The pattern of bits 11..8 picks the kind:
+-- The table of words, in its order. The pattern of bits 11..8 picks the kind, and 1mmm is what the others leave:
 --     0000  S                k = bits 7..0
 --     0001  GOTO             target = bits 7..0
 --     001d  M                d, mode = bits 7..4, cell = bits 3..0
@@ -67,7 +67,7 @@ wordOf (I mode immediate) = (0b1 * 2 ^ 3 + mode) * 2 ^ 8 + immediate
 abbrev pub fits : ℕ → ℕ → Bool
 fits width field = ltb field (2 ^ width)
 
--- Each field within the bits that the table gives it. "All 32 pairs of M mode and d are accepted."
+-- Each field within the bits that the table gives it: "All 32 pairs of M mode and d are accepted".
 unfoldable pub inRange : Instruction → Bool
 inRange (S k) = fits 8 k
 inRange (Goto target) = fits 8 (target .0)

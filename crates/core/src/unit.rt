@@ -72,7 +72,7 @@ fn difference_out(a: u8, b: u8) -> bool
 fn count(a: u8) -> u16
     ensures { λ r. ⌜ (r ≡ a % 8) × (r < 8) ⌝ }
 {
-    (a & 7) as u16
+    (a as u16) & 7
 }
 
 // By 8 - n to the left is by n to the right.
@@ -160,12 +160,12 @@ fn pack(z: bool, c: bool, s: bool, o: bool) -> u8
     one_if(z) * 8 + one_if(c) * 4 + one_if(s) * 2 + one_if(o)
 }
 
-// "Flags not set keep their value": the new flags under the mask, those before elsewhere.
-fn merge(sets: u8, new: u8, before: u8) -> u8
-    requires { ⌜ (sets < 16) × (new < 16) × (before < 16) ⌝ }
-    ensures { λ r. ⌜ r ≡ merged sets new before ⌝ }
+// "Flags not set keep their value": the flags given under the mask, those before elsewhere.
+fn merge(sets: u8, given: u8, before: u8) -> u8
+    requires { ⌜ (sets < 16) × (given < 16) × (before < 16) ⌝ }
+    ensures { λ r. ⌜ r ≡ merged sets given before ⌝ }
 {
-    new & sets | before & 15 - sets
+    given & sets | before & 15 - sets
 }
 
 fn refused(refusal: u8) -> Computed
@@ -190,10 +190,10 @@ pub fn unit(mode: u8, a: u8, b: u8, sr: u8) -> Computed
     }
     let row = row_at(mode, a, b);
     let result = row.result;
-    let new = pack(result == 0, row.carry, is_set(7, result), row.overflow);
+    let given = pack(result == 0, row.carry, is_set(7, result), row.overflow);
     Computed {
         refusal: ACCEPTED,
         result,
-        flags: merge(row.sets, new, sr),
+        flags: merge(row.sets, given, sr),
     }
 }

@@ -31,7 +31,7 @@ pub struct Encoded {
 }
 
 // Bits high..low of a word, at most eight of them.
-fn bits(word: u16, high: u16, low: u16) -> u8
+fn bits(high: u16, low: u16, word: u16) -> u8
     requires { ⌜ (low ≤ high) × (high < 16) × (high < low + 8) ⌝ }
     ensures { λ r. ⌜ r ≡ bits high low word ⌝ }
 {
@@ -51,26 +51,26 @@ fn join(high: u16, low: u16, width: u16) -> u16
 fn instruction_at(word: u16) -> Instruction
     ensures { λ r. ⌜ r ≡ instructionAt word ⌝ }
 {
-    let kind = bits(word, 11, 8);
+    let kind = bits(11, 8, word);
     match kind {
         0b0000 => Instruction::S {
-            k: bits(word, 7, 0),
+            k: bits(7, 0, word),
         },
         0b0001 => Instruction::Goto {
-            target: ProgramAddress(bits(word, 7, 0)),
+            target: ProgramAddress(bits(7, 0, word)),
         },
         0b0010..=0b0011 => Instruction::M {
-            d: bits(word, 8, 8),
-            mode: bits(word, 7, 4),
-            cell: DataAddress(bits(word, 3, 0)),
+            d: bits(8, 8, word),
+            mode: bits(7, 4, word),
+            cell: DataAddress(bits(3, 0, word)),
         },
         0b0100..=0b0111 => Instruction::JumpIf {
-            flag: bits(word, 9, 8),
-            target: ProgramAddress(bits(word, 7, 0)),
+            flag: bits(9, 8, word),
+            target: ProgramAddress(bits(7, 0, word)),
         },
         _ => Instruction::I {
-            mode: bits(word, 10, 8),
-            immediate: bits(word, 7, 0),
+            mode: bits(10, 8, word),
+            immediate: bits(7, 0, word),
         },
     }
 }
@@ -86,7 +86,7 @@ pub fn decode(word: u16) -> Decoded
 }
 
 // Whether a field stays within its width.
-fn fits(field: u8, width: u16) -> bool
+fn fits(width: u16, field: u8) -> bool
     requires { ⌜ width < 16 ⌝ }
     ensures { λ r. ⌜ r ≡ fits width field ⌝ }
 {
@@ -98,11 +98,11 @@ fn in_range(instruction: Instruction) -> bool
     ensures { λ r. ⌜ r ≡ inRange instruction ⌝ }
 {
     match instruction {
-        Instruction::S { k } => fits(k, 8),
-        Instruction::Goto { target } => fits(target.0, 8),
-        Instruction::M { d, mode, cell } => fits(d, 1) & fits(mode, 4) & fits(cell.0, 4),
-        Instruction::JumpIf { flag, target } => fits(flag, 2) & fits(target.0, 8),
-        Instruction::I { mode, immediate } => fits(mode, 3) & fits(immediate, 8),
+        Instruction::S { k } => fits(8, k),
+        Instruction::Goto { target } => fits(8, target.0),
+        Instruction::M { d, mode, cell } => fits(1, d) & fits(4, mode) & fits(4, cell.0),
+        Instruction::JumpIf { flag, target } => fits(2, flag) & fits(8, target.0),
+        Instruction::I { mode, immediate } => fits(3, mode) & fits(8, immediate),
     }
 }
 

@@ -18,18 +18,18 @@ fn print_modes() {
 }
 
 fn print_mode(mode: u8) {
-    print(b"mode ");
+    print(b"digest of mode ");
     print_hex(mode as u32, 1);
     print_digest(swept(START, Sweep::Unit { mode }, 65535));
 }
 
 fn print_decoder() {
-    print(b"decode");
+    print(b"digest of decode");
     print_digest(swept(START, Sweep::Decode, 65535));
 }
 
 fn print_encoder() {
-    print(b"encode");
+    print(b"digest of encode");
     let after_s = swept(START, Sweep::S, 255);
     let after_goto = swept(after_s, Sweep::Goto, 255);
     let after_m = swept(after_goto, Sweep::M, 4095);

@@ -5,11 +5,8 @@ use lib.Bits.{and-mask}
 use Rattle.core.proofs.unit.count.Statement.{statement}
 use Rattle.core.proofs.unit.count.Tie as tie
 
-cast-result : tie.Need-cast-result
-cast-result c = record { fits = omega (arith, and-mask (c .args .a) 3) }
-
 returns : tie.Need-returns
 returns c = omega (arith, and-mask (c .args .a) 3)
 
 pub count-spec : {M : Type 1} → statement M
-count-spec = tie.close (tie.spec cast-result returns)
+count-spec = tie.close (tie.spec returns)

@@ -7,12 +7,12 @@ use lib.Dec.{eqb}
 use Rattle.core.proofs.unit.refused.Statement.{statement}
 use Rattle.core.proofs.unit.refused.Tie as tie
 
-zero : (t : Bool) → cond {A = ℕ} t 0 0 ≡ 0
-zero true = refl
-zero false = refl
+either-way : (t : Bool) → cond {A = ℕ} t 0 0 ≡ 0
+either-way true = refl
+either-way false = refl
 
 returns : tie.Need-returns
-returns c = rw (zero (eqb (c .args .refusal) 0))
+returns c = rw (either-way (eqb (c .args .refusal) 0))
 
 pub refused-spec : {M : Type 1} → statement M
 refused-spec = tie.close (tie.spec returns)

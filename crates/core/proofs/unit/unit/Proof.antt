@@ -5,7 +5,7 @@ use native.Mathlib.Omega.{arith}
 use borrow.Author.Needs.{needs}
 use borrow.Author.Tests.{lt-ltb, le-ltb}
 use Rattle.core.specs.Unit.{computed, unitResult, unitFlags}
-use Rattle.core.proofs.Masks.{masked}
+use Rattle.core.proofs.Flags.{masked}
 use Rattle.core.proofs.unit.unit.Statement.{statement}
 use Rattle.core.proofs.unit.unit.Tie as tie
 

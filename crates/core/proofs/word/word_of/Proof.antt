@@ -1,32 +1,32 @@
--- `core::word::word_of` meets its promise: it joins the fields that the definition adds up, each within its width (`in-range-as`).
+-- `core::word::word_of` meets its promise: it joins the fields that the definition adds up, each within its width (`fields-fit-as`).
 -- Assumes nothing.
 use native.Mathlib.Omega.{arith}
 use borrow.Author.Needs.{needs}
 use Rattle.core.specs.Word.{wordOf}
-use Rattle.core.proofs.Range.{in-range-as}
+use Rattle.core.proofs.Range.{fields-fit-as}
 use Rattle.core.proofs.word.word_of.Statement.{statement}
 use Rattle.core.proofs.word.word_of.Tie as tie
 
 join-requires-3 : tie.Need-join-requires-3
-join-requires-3 c κs = let h = in-range-as _ _ (c .before .instruction3 .given .1) (c .before .before .before .pre) in omega arith
+join-requires-3 c κs = let h = fields-fit-as _ _ (c .before .instruction3 .given .1) (c .before .before .before .pre) in omega arith
 
 join-requires-4 : tie.Need-join-requires-4
-join-requires-4 c κs = let h = in-range-as _ _ (c .before .before .before .instruction3 .given .1) (c .before .before .before .before .before .pre) in omega arith
+join-requires-4 c κs = let h = fields-fit-as _ _ (c .before .before .before .instruction3 .given .1) (c .before .before .before .before .before .pre) in omega arith
 
 join-requires-5 : tie.Need-join-requires-5
-join-requires-5 c κs = let h = in-range-as _ _ (c .before .before .before .before .instruction3 .given .1) (c .before .before .before .before .before .before .pre) in omega arith
+join-requires-5 c κs = let h = fields-fit-as _ _ (c .before .before .before .before .instruction3 .given .1) (c .before .before .before .before .before .before .pre) in omega arith
 
 join-requires-6 : tie.Need-join-requires-6
-join-requires-6 c κs = let h = in-range-as _ _ (c .before .instruction4 .given .1) (c .before .before .before .pre) in omega arith
+join-requires-6 c κs = let h = fields-fit-as _ _ (c .before .instruction4 .given .1) (c .before .before .before .pre) in omega arith
 
 join-requires-7 : tie.Need-join-requires-7
-join-requires-7 c κs = let h = in-range-as _ _ (c .before .before .before .instruction4 .given .1) (c .before .before .before .before .before .pre) in omega arith
+join-requires-7 c κs = let h = fields-fit-as _ _ (c .before .before .before .instruction4 .given .1) (c .before .before .before .before .before .pre) in omega arith
 
 join-requires-8 : tie.Need-join-requires-8
-join-requires-8 c κs = let h = in-range-as _ _ (c .before .instruction5 .given .1) (c .before .before .before .pre) in omega arith
+join-requires-8 c κs = let h = fields-fit-as _ _ (c .before .instruction5 .given .1) (c .before .before .before .pre) in omega arith
 
 join-requires-9 : tie.Need-join-requires-9
-join-requires-9 c κs = let h = in-range-as _ _ (c .before .before .instruction5 .given .1) (c .before .before .before .before .pre) in omega arith
+join-requires-9 c κs = let h = fields-fit-as _ _ (c .before .before .instruction5 .given .1) (c .before .before .before .before .pre) in omega arith
 
 returns : tie.Need-returns
 unfolding wordOf
