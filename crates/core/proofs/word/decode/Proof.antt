@@ -8,11 +8,11 @@ use Rattle.core.proofs.word.decode.Tie as tie
 
 returns : tie.Need-returns
 unfolding decoded
-returns c = simp (lt-ltb _ _ (c .if1 .taken))
+returns c = simp (lt-ltb 4095 (c .before .args .word) (c .if1 .taken))
 
 returns-2 : tie.Need-returns-2
 unfolding decoded
-returns-2 c = simp (le-ltb _ _ (c .before .if1 .left), c .instruction-at .ensures)
+returns-2 c = simp (le-ltb 4095 (c .before .before .args .word) (c .before .if1 .left), c .instruction-at .ensures)
 
 pub decode-spec : {M : Type 1} → statement M
 decode-spec = tie.close (tie.spec returns (λ c κs. search needs) returns-2)
