@@ -1,16 +1,24 @@
--- Any two answers that a promise allows are equal, for every public function of this crate: each promise names the answer.
+-- Any two answers that a promise allows are equal, for every public function of this crate: each promise names the answer, or its number and values.
 -- Assumes nothing.
 use Prim.Native.Nat.{ℕ}
 use mathlib.Core.Path.{_≡_, _∙_, sym}
+use native.Mathlib.Omega.{arith}
 use Rattle.core.specs.Unit.{UnitPromise}
-use Rattle.core.specs.Word.{DecodePromise, EncodePromise}
+use Rattle.core.specs.Word.{numberOf, valuesOf, DecodePromise, EncodePromise}
 use Rattle.core.specs.declared.unit.Computed.{Computed}
 use Rattle.core.specs.declared.word.Decoded.{Decoded}
 use Rattle.core.specs.declared.word.Encoded.{Encoded}
 use Rattle.core.specs.declared.word.Instruction.{Instruction}
 
+-- number and values tell the answers of the decoder apart
+same : (r s : Decoded) → numberOf r ≡ numberOf s → valuesOf r ≡ valuesOf s → r ≡ s
+same (Decoded.Accepted i) (Decoded.Accepted j) e f = cc
+same (Decoded.Accepted i) (Decoded.Refused n) e f = let z : _≡_ {A = ℕ} 0 1 = cc in absurd (omega arith)
+same (Decoded.Refused m) (Decoded.Accepted j) e f = let z : _≡_ {A = ℕ} 0 1 = cc in absurd (omega arith)
+same (Decoded.Refused m) (Decoded.Refused n) e f = cc
+
 pub decode-determined : (word : ℕ) (r s : Decoded) → DecodePromise word r → DecodePromise word s → r ≡ s
-decode-determined word r s p q = p ∙ sym q
+decode-determined word r s p q = same r s (p .number ∙ sym (q .number)) (p .values ∙ sym (q .values))
 
 pub encode-determined : (i : Instruction) (r s : Encoded) → EncodePromise i r → EncodePromise i s → r ≡ s
 encode-determined i r s p q = p ∙ sym q

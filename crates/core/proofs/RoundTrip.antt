@@ -3,6 +3,7 @@
 -- Assumes nothing.
 use Prim.Native.Nat.{ℕ, _+_, _*_, _/_, _%_, _^_, _<_, _≤_}
 use mathlib.Core.Bool.{Bool, true, false}
+use mathlib.Core.List.{[], _∷_}
 use mathlib.Core.Logic.{_↔_}
 use mathlib.Core.Path.{_≡_, refl, ap, sym, _∙_}
 use native.Mathlib.Decide.{decLt}
@@ -10,7 +11,7 @@ use native.Mathlib.Omega.{arith}
 use borrow.Author.Tests.{le-ltb, lt-ltb}
 use lib.Pow.{field, high, low}
 use Rattle.core.specs.Refusal.{accepted, wordAbove4095, fieldOutOfRange}
-use Rattle.core.specs.Word.{bits, programAddress, instructionAt, wordOf, inRange, decoded, encodedAs, encoded}
+use Rattle.core.specs.Word.{bits, programAddress, instructionAt, wordOf, inRange, encodedAs, encoded, DecodePromise, EncodePromise}
 use Rattle.core.specs.declared.word.Decoded.{Decoded}
 use Rattle.core.specs.declared.word.Instruction.{Instruction}
 use Rattle.core.specs.declared.word.Instruction.the-variants.{S, Goto, M, JumpIf, I}
@@ -19,13 +20,11 @@ use Rattle.core.proofs.Kind.{at-S, at-Goto, at-M, at-JumpIf, at-I, Kind
 use Rattle.core.proofs.Range.{FieldsFit, fields-fit}
 
 -- what is accepted, and what it then is
-word-accepted : (word : ℕ) → word ≤ 4095 → decoded word ≡ Decoded.Accepted (instructionAt word)
-unfolding decoded
-word-accepted word h = simp (le-ltb 4095 word h)
+word-accepted : (word : ℕ) → word ≤ 4095 → DecodePromise word (Decoded.Accepted (instructionAt word))
+word-accepted word h = let below = le-ltb 4095 word h in record { number = simp below; values = simp below }
 
-word-refused : (word : ℕ) → 4095 < word → decoded word ≡ Decoded.Refused wordAbove4095
-unfolding decoded
-word-refused word h = simp (lt-ltb 4095 word h)
+word-refused : (word : ℕ) → 4095 < word → DecodePromise word (Decoded.Refused wordAbove4095)
+word-refused word h = let above = lt-ltb 4095 word h in record { number = simp above; values = simp above }
 
 instruction-accepted : (i : Instruction) → inRange i ≡ true → encoded i ≡ encodedAs accepted (wordOf i)
 unfolding encoded
@@ -36,14 +35,16 @@ unfolding encoded
 instruction-refused i h = simp h
 
 -- THE DECODER REFUSES EXACTLY the words above 4095, and always with 10
-pub decoder-refuses : (word n : ℕ) → (decoded word ≡ Decoded.Refused n) ↔ ((4095 < word) × (n ≡ wordAbove4095))
+pub decoder-refuses : (word n : ℕ) → DecodePromise word (Decoded.Refused n) ↔ ((4095 < word) × (n ≡ wordAbove4095))
 decoder-refuses word n = (there, λ h. rw (h .1) (word-refused word (h .0)))
   where
-    there : decoded word ≡ Decoded.Refused n → (4095 < word) × (n ≡ wordAbove4095)
-    there e =
+    there : DecodePromise word (Decoded.Refused n) → (4095 < word) × (n ≡ wordAbove4095)
+    there p =
         elim (decLt 4095 word) [
-          | yes h ↦ (h, let r = word-refused word h in cc)
-          | no h ↦ let r = word-accepted word (omega arith) in let z : _≡_ {A = ℕ} 0 1 = cc in absurd (omega arith)
+          | yes h ↦ (h, simp (lt-ltb 4095 word h) at (p .number))
+          | no h ↦
+              let none : [] ≡ instructionAt word ∷ [] = simp (le-ltb 4095 word (omega arith)) at (p .values) in
+              let z : _≡_ {A = ℕ} 0 1 = cc in absurd (omega arith)
         ]
 
 -- THE ENCODER ACCEPTS EXACTLY the instructions in range, and refuses every other with 14
@@ -92,10 +93,10 @@ stands word h (is-I lo) =
 
 -- EVERY WORD 0 TO 4095 decodes to an instruction, and encoding that gives the word back
 pub word-back : (word : ℕ) → word ≤ 4095
-    → (i : Instruction) × (decoded word ≡ Decoded.Accepted i) × (encoded i ≡ encodedAs accepted word)
+    → (i : Instruction) × DecodePromise word (Decoded.Accepted i) × EncodePromise i (encodedAs accepted word)
 word-back word h =
     let s = stands word h (kind word) in
-    (instructionAt word, word-accepted word h, rw (s .1) at (instruction-accepted (instructionAt word) (s .0)))
+    (instructionAt word, word-accepted word h, sym (rw (s .1) at (instruction-accepted (instructionAt word) (s .0))))
 
 -- the fields of an instruction in range, cut from its word
 cut-again : (i : Instruction) → FieldsFit i → (wordOf i ≤ 4095) × (instructionAt (wordOf i) ≡ i)
@@ -128,7 +129,7 @@ cut-again (I mode immediate) h =
 
 -- EVERY INSTRUCTION IN RANGE encodes to a word, and decoding that gives the instruction back
 pub instruction-back : (i : Instruction) → inRange i ≡ true
-    → (word : ℕ) × (encoded i ≡ encodedAs accepted word) × (decoded word ≡ Decoded.Accepted i)
+    → (word : ℕ) × EncodePromise i (encodedAs accepted word) × DecodePromise word (Decoded.Accepted i)
 instruction-back i h =
     let c = cut-again i (fields-fit i h) in
-    (wordOf i, instruction-accepted i h, word-accepted (wordOf i) (c .0) ∙ ap Decoded.Accepted (c .1))
+    (wordOf i, sym (instruction-accepted i h), rw (c .1) at (word-accepted (wordOf i) (c .0)))

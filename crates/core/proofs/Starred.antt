@@ -1,11 +1,13 @@
--- The starred rows of document 01's "Numbers to meet", one table under one statement. Each is met because the definitions compute to it.
+-- The starred rows of document 01's "Numbers to meet", one table under one statement: each is the answer that the function's promise
+-- asks for, since the definitions compute to it.
 -- Assumes nothing.
 use Prim.Native.Nat.{ℕ}
 use mathlib.Core.List.{List, [], _∷_}
-use mathlib.Core.Path.{_≡_, refl}
+use mathlib.Core.Path.{refl}
 use Rattle.core.specs.Refusal.{accepted}
-use Rattle.core.specs.Unit.{computed, computedAs, table, unitResult, unitFlags}
-use Rattle.core.specs.Word.{decoded, decodedAs, instructionAt, programAddress, flagO, flagZ}
+use Rattle.core.specs.Unit.{computed, computedAs, table, unitResult, unitFlags, UnitPromise}
+use Rattle.core.specs.Word.{instructionAt, programAddress, flagO, flagZ, DecodePromise}
+use Rattle.core.specs.declared.word.Decoded.{Decoded}
 use Rattle.core.specs.declared.word.Instruction.the-variants.{JumpIf}
 use Rattle.core.proofs.Finite.{_&_}
 
@@ -16,8 +18,8 @@ pub data Row : Type 0 where
   jump : (word f target : ℕ) → Row
 
 abbrev pub Met : Row → Type 0
-Met (unit mode a b before result after) = computed mode a b before ≡ computedAs accepted result after
-Met (jump word f target) = decoded word ≡ decodedAs accepted (JumpIf f (programAddress target))
+Met (unit mode a b before result after) = UnitPromise mode a b before (computedAs accepted result after)
+Met (jump word f target) = DecodePromise word (Decoded.Accepted (JumpIf f (programAddress target)))
 
 abbrev pub AllMet : List Row → Type 0
 AllMet [] = Unit {0}
@@ -41,5 +43,5 @@ starred =
     jump 0x404 flagO 4 ∷ []
 
 pub all-met : AllMet starred
-unfolding decoded instructionAt computed unitResult unitFlags table
-all-met = refl & refl & refl & refl & refl & refl & refl & refl & refl & refl & refl & refl & refl & refl & tt
+unfolding instructionAt computed unitResult unitFlags table
+all-met = refl & refl & refl & refl & refl & refl & refl & refl & refl & refl & refl & refl & record { number = refl; values = refl } & record { number = refl; values = refl } & tt

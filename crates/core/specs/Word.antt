@@ -2,7 +2,7 @@
 -- Assumes nothing.
 use Prim.Native.Nat.{ℕ, _+_, _-_, _*_, _/_, _%_, _^_}
 use mathlib.Core.Bool.{Bool, cond, not, _&&_}
-use mathlib.Core.List.{[], _∷_}
+use mathlib.Core.List.{List, [], _∷_}
 use mathlib.Core.Path.{_≡_}
 use lib.Dec.{eqb, ltb}
 use Rattle.core.specs.Refusal.{accepted, wordAbove4095, fieldOutOfRange, check, firstBroken}
@@ -75,27 +75,37 @@ inRange (M d mode cell) = fits 1 d && fits 4 mode && fits 4 (cell .0)
 inRange (JumpIf f target) = fits 2 f && fits 8 (target .0)
 inRange (I mode immediate) = fits 3 mode && fits 8 immediate
 
--- "Where an answer is an enum, a definition gives this paper's number and values for each of its cases":
--- number 0 is `Accepted` with the instruction's values, any other number is `Refused` with that number.
-abbrev pub decodedAs : ℕ → Instruction → Decoded
-decodedAs number instruction =
-    cond (eqb number accepted) (Decoded.Accepted instruction) (Decoded.Refused number)
+-- "Where an answer is an enum, a definition gives this paper's number and values for each of its cases, and the promises use that
+-- definition": the number, 0 where nothing is refused, and the instruction with its values, where there is one.
+abbrev pub numberOf : Decoded → ℕ
+numberOf (Decoded.Accepted instruction) = accepted
+numberOf (Decoded.Refused number) = number
+
+abbrev pub valuesOf : Decoded → List Instruction
+valuesOf (Decoded.Accepted instruction) = instruction ∷ []
+valuesOf (Decoded.Refused number) = []
+
+-- "Decoder 10"
+abbrev pub decodeRefusal : ℕ → ℕ
+decodeRefusal word = firstBroken (check (ltb 4095 word) wordAbove4095 ∷ [])
+
+-- what `decode` promises of its answer
+pub record DecodePromise (word : ℕ) (answer : Decoded) : Type 0 where
+  pub number : numberOf answer ≡ decodeRefusal word
+  pub values : valuesOf answer ≡ cond (eqb (decodeRefusal word) accepted) (instructionAt word ∷ []) []
+
+-- "encoder 14"
+abbrev pub encodeRefusal : Instruction → ℕ
+encodeRefusal instruction = firstBroken (check (not (inRange instruction)) fieldOutOfRange ∷ [])
 
 -- "A refusal returns its number; .. other result fields are 0."
 abbrev pub encodedAs : ℕ → ℕ → Encoded
 encodedAs number word = record { refusal = number; word = cond (eqb number accepted) word 0 }
 
--- "Decoder 10"
-unfoldable pub decoded : ℕ → Decoded
-decoded word = decodedAs (firstBroken (check (ltb 4095 word) wordAbove4095 ∷ [])) (instructionAt word)
-
--- "encoder 14"
+-- the encoder's answer
 unfoldable pub encoded : Instruction → Encoded
-encoded instruction = encodedAs (firstBroken (check (not (inRange instruction)) fieldOutOfRange ∷ [])) (wordOf instruction)
+encoded instruction = encodedAs (encodeRefusal instruction) (wordOf instruction)
 
--- what `decode` and `encode` promise of their answers
-abbrev pub DecodePromise : ℕ → Decoded → Type 0
-DecodePromise word answer = answer ≡ decoded word
-
+-- what `encode` promises of its answer
 abbrev pub EncodePromise : Instruction → Encoded → Type 0
 EncodePromise instruction answer = answer ≡ encoded instruction
