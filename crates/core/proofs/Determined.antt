@@ -1,24 +1,27 @@
 -- Any two answers that a promise allows are equal, for every public function of this crate: each promise names the answer, or its number and values.
 -- Assumes nothing.
 use Prim.Native.Nat.{ℕ}
-use mathlib.Core.Path.{_≡_, _∙_, sym}
+use mathlib.Core.Path.{_≡_, _∙_, ap, sym}
 use native.Mathlib.Omega.{arith}
 use Rattle.core.specs.Unit.{UnitPromise}
-use Rattle.core.specs.Word.{numberOf, valuesOf, DecodePromise, EncodePromise}
+use Rattle.core.specs.Word.{NumberAndValues, numberAndValues, DecodePromise, EncodePromise}
 use Rattle.core.specs.declared.unit.Computed.{Computed}
 use Rattle.core.specs.declared.word.Decoded.{Decoded}
 use Rattle.core.specs.declared.word.Encoded.{Encoded}
 use Rattle.core.specs.declared.word.Instruction.{Instruction}
 
 -- number and values tell the answers of the decoder apart
-same : (r s : Decoded) → numberOf r ≡ numberOf s → valuesOf r ≡ valuesOf s → r ≡ s
-same (Decoded.Accepted i) (Decoded.Accepted j) e f = cc
-same (Decoded.Accepted i) (Decoded.Refused n) e f = let z : _≡_ {A = ℕ} 0 1 = cc in absurd (omega arith)
-same (Decoded.Refused m) (Decoded.Accepted j) e f = let z : _≡_ {A = ℕ} 0 1 = cc in absurd (omega arith)
-same (Decoded.Refused m) (Decoded.Refused n) e f = cc
+same : (r s : Decoded) → numberAndValues r ≡ numberAndValues s → r ≡ s
+same r s e = go r s (ap (λ (a : NumberAndValues). a .number) e) (ap (λ (a : NumberAndValues). a .values) e)
+  where
+    go : (r s : Decoded) → numberAndValues r .number ≡ numberAndValues s .number → numberAndValues r .values ≡ numberAndValues s .values → r ≡ s
+    go (Decoded.Accepted i) (Decoded.Accepted j) e f = cc
+    go (Decoded.Accepted i) (Decoded.Refused n) e f = let z : _≡_ {A = ℕ} 0 1 = cc in absurd (omega arith)
+    go (Decoded.Refused m) (Decoded.Accepted j) e f = let z : _≡_ {A = ℕ} 0 1 = cc in absurd (omega arith)
+    go (Decoded.Refused m) (Decoded.Refused n) e f = cc
 
 pub decode-determined : (word : ℕ) (r s : Decoded) → DecodePromise word r → DecodePromise word s → r ≡ s
-decode-determined word r s p q = same r s (p .number ∙ sym (q .number)) (p .values ∙ sym (q .values))
+decode-determined word r s p q = same r s (p ∙ sym q)
 
 pub encode-determined : (i : Instruction) (r s : Encoded) → EncodePromise i r → EncodePromise i s → r ≡ s
 encode-determined i r s p q = p ∙ sym q

@@ -1,5 +1,5 @@
--- Differences of two numbers as integers: what is added to one is added to the other, so sums and negations of differences are
--- differences again.
+-- Differences of two numbers as integers: p - q and p' - q' are one integer where p + q' = p' + q (`same-sub`), so sums and negations of
+-- differences are differences again.
 -- Assumes nothing.
 use Prim.Native.Nat.{ℕ, zero, suc, _+_, _-_}
 use mathlib.Core.Bool.{Bool, true, false}

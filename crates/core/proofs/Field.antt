@@ -1,5 +1,6 @@
 -- Fields of bits, once over the width: what shifts and masks cut and join is what document 01 says by position, since a shift by k is
--- a product or a quotient by 2 ^ k, and a mask of k ones is the remainder by 2 ^ k. Cited at 1, 2, 3, 4, 8 and 12 bits.
+-- a product or a quotient by 2 ^ k, and a mask of k ones is the remainder by 2 ^ k. The proofs of `bits`, `join` and `fits` cite them at any
+-- width, and the round trip `neighbours` at 4 + 4 and 4 + 8 bits.
 -- Assumes nothing.
 use Prim.Native.Nat.{ℕ, _+_, _-_, _*_, _/_, _%_, _^_, _<_, _≤_}
 use mathlib.Core.Path.{_≡_, _∙_, ap, sym}
@@ -23,7 +24,7 @@ module _ (w high low : ℕ) (order : low ≤ high) (room : 2 + (high - low) ≤ 
   top : (2 * 2 ^ (high - low)) % 2 ^ w ≡ 2 ^ (high + 1 - low)
   top = shl-exact 2 (high - low) w (lit< tt) room ∙ sym (ap (λ (n : ℕ). 2 ^ n) width ∙ pow-add 2 1 (high - low))
 
-  -- so one less is the field's mask
+  -- so one can be taken from it, and what is left is the field's mask
   pub mask-fits : 1 ≤ (2 * 2 ^ (high - low)) % 2 ^ w
   mask-fits = rw top (pow-pos (high + 1 - low))
 

@@ -79,7 +79,7 @@ abbrev differ : Bool → Bool → Bool
 differ p q = not (Bool·beq p q)
 
 module _ (a b : ℕ) (ha : a < 256) (hb : b < 256) where
-  -- the operands have one sign and the sum s has the other: the exact sum is outside
+  -- the operands have one sign and the sum s has the other, exactly if the exact sum is outside
   sum-cases : (s : ℕ) → s ≡ (a + b) % 256 → (p q r : Bool) → Side p a → Side q b → Side r s
       → (differ p r && differ q r) ≡ (ltb (a + b + 128) (lift p + lift q) || ltb (lift p + lift q + 127) (a + b))
   sum-cases s h true true true x y z = sym (within (a + b) 512 (omega arith) (omega arith))
@@ -97,7 +97,7 @@ module _ (a b : ℕ) (ha : a < 256) (hb : b < 256) where
       sum-cases s h (isSet 7 a) (isSet 7 b) (isSet 7 s) (side a ha) (side b hb) (side s hs)
       ∙ sym (outside-sum a b)
 
-  -- a difference d is outside if adding b to it again is
+  -- a difference d is outside exactly if adding b to it again is
   difference-cases : (d : ℕ) → (d + b) % 256 ≡ a → d < 256 → (p q r : Bool) → Side p a → Side q b → Side r d
       → (ltb (d + b + 128) (lift r + lift q) || ltb (lift r + lift q + 127) (d + b))
       ≡ (ltb (a + lift q + 128) (lift p + b) || ltb (lift p + b + 127) (a + lift q))

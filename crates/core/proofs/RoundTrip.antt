@@ -3,7 +3,6 @@
 -- Assumes nothing.
 use Prim.Native.Nat.{ℕ, _+_, _*_, _/_, _%_, _^_, _<_, _≤_}
 use mathlib.Core.Bool.{Bool, true, false}
-use mathlib.Core.List.{[], _∷_}
 use mathlib.Core.Logic.{_↔_}
 use mathlib.Core.Path.{_≡_, refl, ap, sym, _∙_}
 use native.Mathlib.Decide.{decLt}
@@ -11,20 +10,23 @@ use native.Mathlib.Omega.{arith}
 use borrow.Author.Tests.{le-ltb, lt-ltb}
 use lib.Pow.{field, high, low}
 use Rattle.core.specs.Refusal.{accepted, wordAbove4095, fieldOutOfRange}
-use Rattle.core.specs.Word.{bits, programAddress, instructionAt, wordOf, inRange, encodedAs, encoded, DecodePromise, EncodePromise}
+use Rattle.core.specs.Word.{bits, programAddress, instructionAt, wordOf, inRange, decoded, encodedAs, encoded, DecodePromise, EncodePromise}
 use Rattle.core.specs.declared.word.Decoded.{Decoded}
 use Rattle.core.specs.declared.word.Instruction.{Instruction}
 use Rattle.core.specs.declared.word.Instruction.the-variants.{S, Goto, M, JumpIf, I}
+use Rattle.core.proofs.Determined.{decode-determined}
 use Rattle.core.proofs.Field.{neighbours}
 use Rattle.core.proofs.Kind.{at-S, at-Goto, at-M, at-JumpIf, at-I, Kind, is-S, is-Goto, is-M, is-JumpIf, is-I, kind}
 use Rattle.core.proofs.Range.{FieldsFit, fields-fit}
 
 -- what is accepted, and what it then is
 word-accepted : (word : ℕ) → word ≤ 4095 → DecodePromise word (Decoded.Accepted (instructionAt word))
-word-accepted word h = let below = le-ltb 4095 word h in record { number = simp below; values = simp below }
+unfolding decoded
+word-accepted word h = simp (le-ltb 4095 word h)
 
 word-refused : (word : ℕ) → 4095 < word → DecodePromise word (Decoded.Refused wordAbove4095)
-word-refused word h = let above = lt-ltb 4095 word h in record { number = simp above; values = simp above }
+unfolding decoded
+word-refused word h = simp (lt-ltb 4095 word h)
 
 instruction-accepted : (i : Instruction) → inRange i ≡ true → encoded i ≡ encodedAs accepted (wordOf i)
 unfolding encoded
@@ -41,9 +43,11 @@ decoder-refuses word n = (there, λ h. rw (h .1) (word-refused word (h .0)))
     there : DecodePromise word (Decoded.Refused n) → (4095 < word) × (n ≡ wordAbove4095)
     there p =
         elim (decLt 4095 word) [
-          | yes h ↦ (h, simp (lt-ltb 4095 word h) at (p .number))
+          | yes h ↦
+              let e : Decoded.Refused n ≡ Decoded.Refused wordAbove4095 = decode-determined word _ _ p (word-refused word h) in
+              (h, cc)
           | no h ↦
-              let none : [] ≡ instructionAt word ∷ [] = simp (le-ltb 4095 word (omega arith)) at (p .values) in
+              let e : Decoded.Refused n ≡ Decoded.Accepted (instructionAt word) = decode-determined word _ _ p (word-accepted word (omega arith)) in
               let z : _≡_ {A = ℕ} 0 1 = cc in absurd (omega arith)
         ]
 
@@ -91,7 +95,7 @@ stands word h (is-JumpIf lo hi) =
 stands word h (is-I lo) =
     rw (at-I word lo) (simp (lt-ltb (bits 10 8 word) 8 (omega arith), lt-ltb (bits 7 0 word) 256 (omega arith)), omega arith)
 
--- EVERY WORD 0 TO 4095 decodes to an instruction, and encoding that gives the word back
+-- EVERY WORD 0 TO 4095 decodes to an instruction, the only one that the promise allows (Determined), and encoding that gives the word back
 pub word-back : (word : ℕ) → word ≤ 4095
     → (i : Instruction) × DecodePromise word (Decoded.Accepted i) × EncodePromise i (encodedAs accepted word)
 word-back word h =
@@ -127,7 +131,7 @@ cut-again (I mode immediate) h =
     let g : bits 7 0 w ≡ immediate = omega arith in
     (omega arith, at-I w lo ∙ rw (e, g))
 
--- EVERY INSTRUCTION IN RANGE encodes to a word, and decoding that gives the instruction back
+-- EVERY INSTRUCTION IN RANGE encodes to a word, the only one that the promise allows, and decoding that gives the instruction back
 pub instruction-back : (i : Instruction) → inRange i ≡ true
     → (word : ℕ) × EncodePromise i (encodedAs accepted word) × DecodePromise word (Decoded.Accepted i)
 instruction-back i h =

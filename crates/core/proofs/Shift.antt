@@ -1,5 +1,5 @@
--- Rotations and filled shifts of a byte: the code's masks and shifts against the definitions, each by one computed test over every byte
--- and count.
+-- Rotations and filled shifts of a byte: the code's masks and shifts against the definitions, and the two ways to rotate against each
+-- other, each by one computed test over every byte and count.
 -- Assumes nothing.
 use Prim.Native.Nat.{ℕ, _+_, _-_, _*_, _/_, _%_, _^_, _<_}
 use mathlib.Core.Bool.{Bool, _&&_}

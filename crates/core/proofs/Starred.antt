@@ -6,7 +6,7 @@ use mathlib.Core.List.{List, [], _∷_}
 use mathlib.Core.Path.{refl}
 use Rattle.core.specs.Refusal.{accepted}
 use Rattle.core.specs.Unit.{computed, computedAs, table, unitResult, unitFlags, UnitPromise}
-use Rattle.core.specs.Word.{instructionAt, programAddress, flagO, flagZ, DecodePromise}
+use Rattle.core.specs.Word.{decoded, instructionAt, programAddress, flagO, flagZ, DecodePromise}
 use Rattle.core.specs.declared.word.Decoded.{Decoded}
 use Rattle.core.specs.declared.word.Instruction.the-variants.{JumpIf}
 use Rattle.core.proofs.Finite.{_&_}
@@ -43,5 +43,5 @@ starred =
     jump 0x404 flagO 4 ∷ []
 
 pub all-met : AllMet starred
-unfolding instructionAt computed unitResult unitFlags table
-all-met = refl & refl & refl & refl & refl & refl & refl & refl & refl & refl & refl & refl & record { number = refl; values = refl } & record { number = refl; values = refl } & tt
+unfolding decoded instructionAt computed unitResult unitFlags table
+all-met = refl & refl & refl & refl & refl & refl & refl & refl & refl & refl & refl & refl & refl & refl & tt

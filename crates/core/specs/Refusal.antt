@@ -1,4 +1,4 @@
--- Document 01's "Refusal numbers" by name, and which number a call gives where several rules are broken.
+-- Those of document 01's "Refusal numbers" that are given so far, by name, and which number a call gives where several rules are broken.
 -- Assumes nothing.
 use Prim.Native.Nat.{ℕ}
 use mathlib.Core.Bool.{Bool, cond}

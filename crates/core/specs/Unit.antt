@@ -123,7 +123,7 @@ unitFlags mode a b sr = merged (rowAt mode a b .sets) (rowFlags (rowAt mode a b)
 abbrev pub unitRefusal : ℕ → ℕ → ℕ
 unitRefusal mode sr = firstBroken (check (ltb 15 mode) fieldOutOfRange ∷ check (ltb 15 sr) registerOutOfRange ∷ [])
 
--- "A refusal returns its number; .. other result fields are 0."
+-- "A refusal returns its number; .. other result fields are 0".
 abbrev pub computedAs : ℕ → ℕ → ℕ → Computed
 computedAs number result flags =
     record { refusal = number; result = cond (eqb number accepted) result 0; flags = cond (eqb number accepted) flags 0 }

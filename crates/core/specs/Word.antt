@@ -76,29 +76,34 @@ inRange (JumpIf f target) = fits 2 f && fits 8 (target .0)
 inRange (I mode immediate) = fits 3 mode && fits 8 immediate
 
 -- "Where an answer is an enum, a definition gives this paper's number and values for each of its cases, and the promises use that
--- definition": the number, 0 where nothing is refused, and the instruction with its values, where there is one.
-abbrev pub numberOf : Decoded → ℕ
-numberOf (Decoded.Accepted instruction) = accepted
-numberOf (Decoded.Refused number) = number
+-- definition". The number is 0 where nothing is refused. The values of an accepted word are its instruction, since each kind has document
+-- 01's fields in its table's order; a refused word has no result field that could be 0, and so none.
+pub record NumberAndValues : Type 0 where
+  pub number : ℕ
+  pub values : List Instruction
 
-abbrev pub valuesOf : Decoded → List Instruction
-valuesOf (Decoded.Accepted instruction) = instruction ∷ []
-valuesOf (Decoded.Refused number) = []
+abbrev pub numberAndValues : Decoded → NumberAndValues
+numberAndValues (Decoded.Accepted instruction) = record { number = accepted; values = instruction ∷ [] }
+numberAndValues (Decoded.Refused number) = record { number = number; values = [] }
 
 -- "Decoder 10"
 abbrev pub decodeRefusal : ℕ → ℕ
 decodeRefusal word = firstBroken (check (ltb 4095 word) wordAbove4095 ∷ [])
 
+-- the decoder's answer
+unfoldable pub decoded : ℕ → NumberAndValues
+decoded word =
+    record { number = decodeRefusal word; values = cond (eqb (decodeRefusal word) accepted) (instructionAt word ∷ []) [] }
+
 -- what `decode` promises of its answer
-pub record DecodePromise (word : ℕ) (answer : Decoded) : Type 0 where
-  pub number : numberOf answer ≡ decodeRefusal word
-  pub values : valuesOf answer ≡ cond (eqb (decodeRefusal word) accepted) (instructionAt word ∷ []) []
+abbrev pub DecodePromise : ℕ → Decoded → Type 0
+DecodePromise word answer = numberAndValues answer ≡ decoded word
 
 -- "encoder 14"
 abbrev pub encodeRefusal : Instruction → ℕ
 encodeRefusal instruction = firstBroken (check (not (inRange instruction)) fieldOutOfRange ∷ [])
 
--- "A refusal returns its number; .. other result fields are 0."
+-- "A refusal returns its number; .. other result fields are 0".
 abbrev pub encodedAs : ℕ → ℕ → Encoded
 encodedAs number word = record { refusal = number; word = cond (eqb number accepted) word 0 }
 

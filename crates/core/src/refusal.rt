@@ -1,4 +1,4 @@
-// Document 01's refusal numbers by name: this is their one place in the code, as specs/Refusal.antt is among the definitions.
+// Those of document 01's refusal numbers that are given so far, by name: this is their one place in the code, as specs/Refusal.antt is among the definitions.
 
 // no rule is broken
 pub const ACCEPTED: u8 = 0;
