@@ -1,14 +1,16 @@
 -- Finitely many cases. A test of every number below a bound, or of every pair, which the checker computes, and the law that turns it into
--- the rule at each; proofs for a list, side by side; and a number that is none of the first k, where a match has used them up.
+-- the rule at each; what holds of each entry of a list; and a number that is none of the first k, where a match has used them up.
 -- Assumes nothing.
 use Prim.Native.Nat.{ℕ, zero, suc, _<_, _≤_, zero-le}
 use mathlib.Core.Bool.{Bool, true, false, _&&_}
+use mathlib.Core.List.{List, [], _∷_}
 use mathlib.Core.Logic.{_⊎_, inl, inr, ⊎-elim}
 use mathlib.Core.Path.{_≡_, refl}
 use native.Mathlib.Nat.{not-suc-le-zero}
 use native.Mathlib.Omega.{arith}
 use borrow.Author.Tests.{eqb-true, eqb-false}
 use lib.Dec.{T, eqb}
+use lib.ListN.{getD}
 
 pub left : (a b : Bool) → T (a && b) → T a
 left true b t = tt
@@ -17,11 +19,6 @@ left false b t = t
 pub right : (a b : Bool) → T (a && b) → T b
 right true b t = t
 right false b t = absurd t
-
--- a proof for each of a list, side by side
-infixr 5 _&_
-abbrev pub _&_ : {A B : Type 0} → A → B → A × B
-a & b = (a, b)
 
 abbrev pub all : (ℕ → Bool) → ℕ → Bool
 all f zero = true
@@ -43,6 +40,20 @@ all-pairs f m n = all (λ i. all (f i) n) m
 
 pub each-pair : (f : ℕ → ℕ → Bool) (m n : ℕ) → T (all-pairs f m n) → (i j : ℕ) → i < m → j < n → T (f i j)
 each-pair f m n t i j hi hj = each (f i) n (each (λ k. all (f k) n) m t i hi) j hj
+
+-- what holds of each entry of a list, shown side by side, and then of what is found in it
+abbrev pub All : {A : Type 0} → (A → Type 0) → List A → Type 0
+All P [] = Unit {0}
+All P (x ∷ xs) = P x × All P xs
+
+infixr 5 _&_
+abbrev pub _&_ : {A B : Type 0} → A → B → A × B
+a & b = (a, b)
+
+pub found : {A : Type 0} (P : A → Type 0) (xs : List A) (k : ℕ) (d : A) → All P xs → P d → P (getD xs k d)
+found P [] k d t h = h
+found P (x ∷ xs) zero d t h = t .0
+found P (x ∷ xs) (suc k) d t h = found P xs k d (t .1) h
 
 -- a number that is none of the first k, as the last arm of a match on numbers has it
 abbrev pub NoneOf : ℕ → ℕ → Type 0

@@ -1,41 +1,30 @@
 -- Flags and masks of flags: every row's mask is below 16, since it is a fixed mask or one of two; and the code's merge under a mask is the
 -- definition's, by one computed test over every mask and pair of flags.
 -- Assumes nothing.
-use Prim.Native.Nat.{ℕ, zero, suc, _-_, _%_, _<_}
+use Prim.Native.Nat.{ℕ, _-_, _%_, _<_}
 use mathlib.Core.Bool.{Bool, true, false, cond}
-use mathlib.Core.List.{List, [], _∷_}
 use mathlib.Core.Path.{_≡_}
 use lib.Bits.{bitAnd, bitOr}
 use lib.Dec.{lit<, eqb, eqb→eq}
-use lib.ListN.{getD}
 use Rattle.core.specs.Unit.{none, onlyS, zc, zcs, table, rowAt, merged}
 use Rattle.core.specs.declared.unit.UnitRow.{UnitRow}
-use Rattle.core.proofs.Finite.{_&_, all, each, each-pair}
+use Rattle.core.proofs.Finite.{all, each, each-pair, All, _&_, found}
 
 abbrev Masked : UnitRow → Type 0
 Masked r = r .sets < 16
-
-abbrev AllMasked : List UnitRow → Type 0
-AllMasked [] = Unit {0}
-AllMasked (r ∷ rs) = Masked r × AllMasked rs
-
-at : (rows : List UnitRow) (k : ℕ) (d : UnitRow) → AllMasked rows → Masked d → Masked (getD rows k d)
-at [] k d t h = h
-at (r ∷ rs) zero d t h = t .0
-at (r ∷ rs) (suc k) d t h = at rs k d (t .1) h
 
 either : (t : Bool) (x y : ℕ) → x < 16 → y < 16 → cond t x y < 16
 either true x y hx hy = hx
 either false x y hx hy = hy
 
-all-masked : (a b n : ℕ) → AllMasked (table a b n)
+all-masked : (a b n : ℕ) → All Masked (table a b n)
 unfolding table
 all-masked a b n =
     lit< tt & lit< tt & lit< tt & lit< tt & lit< tt & lit< tt & lit< tt & lit< tt & lit< tt & lit< tt & lit< tt & lit< tt &
     either (eqb n 0) none zc (lit< tt) (lit< tt) & either (eqb n 0) none zc (lit< tt) (lit< tt) & either (eqb n 0) onlyS zcs (lit< tt) (lit< tt) & lit< tt & tt
 
 pub masked : (mode a b : ℕ) → rowAt mode a b .sets < 16
-masked mode a b = at (table a b (a % 8)) mode _ (all-masked a b (a % 8)) (lit< tt)
+masked mode a b = found Masked (table a b (a % 8)) mode _ (all-masked a b (a % 8)) (lit< tt)
 
 -- the flags given under the mask, those before elsewhere
 abbrev mixed : ℕ → ℕ → ℕ → ℕ

@@ -9,7 +9,7 @@ use Rattle.core.specs.Unit.{computed, computedAs, table, unitResult, uni
 use Rattle.core.specs.Word.{decoded, instructionAt, programAddress, flagO, flagZ, DecodePromise}
 use Rattle.core.specs.declared.word.Decoded.{Decoded}
 use Rattle.core.specs.declared.word.Instruction.the-variants.{JumpIf}
-use Rattle.core.proofs.Finite.{_&_}
+use Rattle.core.proofs.Finite.{All, _&_}
 
 pub data Row : Type 0 where
   -- mode; a, b, flags before; result, flags
@@ -20,10 +20,6 @@ pub data Row : Type 0 where
 abbrev pub Met : Row → Type 0
 Met (unit mode a b before result after) = UnitPromise mode a b before (computedAs accepted result after)
 Met (jump word f target) = DecodePromise word (Decoded.Accepted (JumpIf f (programAddress target)))
-
-abbrev pub AllMet : List Row → Type 0
-AllMet [] = Unit {0}
-AllMet (r ∷ rs) = Met r × AllMet rs
 
 abbrev pub starred : List Row
 starred =
@@ -42,6 +38,6 @@ starred =
     jump 0x704 flagZ 4 ∷
     jump 0x404 flagO 4 ∷ []
 
-pub all-met : AllMet starred
+pub all-met : All Met starred
 unfolding decoded instructionAt computed unitResult unitFlags table
 all-met = refl & refl & refl & refl & refl & refl & refl & refl & refl & refl & refl & refl & refl & refl & tt
