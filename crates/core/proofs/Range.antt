@@ -1,13 +1,14 @@
--- The test `inRange` as facts about the fields: each is below the first power that its bits do not reach.
+-- The test `inRange` as facts about the fields: each is below the first power that its bits do not reach. What is cut from a word is so always.
 -- Assumes nothing.
 use Prim.Native.Nat.{ℕ, _^_, _<_}
 use mathlib.Core.Bool.{Bool, true, false, _&&_}
 use mathlib.Core.Path.{_≡_, refl}
 use native.Mathlib.Omega.{arith}
 use borrow.Author.Tests.{ltb-true}
-use Rattle.core.specs.Word.{fits, inRange}
+use Rattle.core.specs.Word.{fits, inRange, instructionAt}
 use Rattle.core.specs.declared.word.Instruction.{Instruction}
 use Rattle.core.specs.declared.word.Instruction.the-variants.{S, Goto, M, JumpIf, I}
+use Rattle.core.proofs.Kind.{Kind, is-S, is-Goto, is-M, is-JumpIf, is-I, kind, at-S, at-Goto, at-M, at-JumpIf, at-I}
 
 abbrev pub FieldsFit : Instruction → Type 0
 FieldsFit (S k) = k < 2 ^ 8
@@ -40,3 +41,17 @@ fields-fit (I mode immediate) e = two 3 8 mode immediate e
 -- the same, where the instruction is known by its kind
 pub fields-fit-as : (i j : Instruction) → i ≡ j → inRange i ≡ true → FieldsFit j
 fields-fit-as i j e h = fields-fit j (rw e at h)
+
+-- what stands at any word fits, since each field is cut to its bits
+pub cut-fits : (word : ℕ) → FieldsFit (instructionAt word)
+cut-fits word = go (kind word)
+  where
+    go : Kind word → FieldsFit (instructionAt word)
+    go (is-S e) = rw (at-S word e) (omega arith)
+    go (is-Goto e) = rw (at-Goto word e) (omega arith)
+    go (is-M lo hi) = rw (at-M word lo hi) (omega arith, omega arith, omega arith)
+    go (is-JumpIf lo hi) = rw (at-JumpIf word lo hi) (omega arith, omega arith)
+    go (is-I lo) = rw (at-I word lo) (omega arith, omega arith)
+
+pub cut-fits-as : (word : ℕ) (i : Instruction) → instructionAt word ≡ i → FieldsFit i
+cut-fits-as word i e = rw e at (cut-fits word)

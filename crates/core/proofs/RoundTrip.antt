@@ -103,7 +103,7 @@ word-back word h =
     (instructionAt word, word-accepted word h, sym (rw (s .1) at (instruction-accepted (instructionAt word) (s .0))))
 
 -- the fields of an instruction in range, cut from its word
-cut-again : (i : Instruction) → FieldsFit i → (wordOf i ≤ 4095) × (instructionAt (wordOf i) ≡ i)
+pub cut-again : (i : Instruction) → FieldsFit i → (wordOf i ≤ 4095) × (instructionAt (wordOf i) ≡ i)
 unfolding wordOf
 cut-again (S k) h = (omega arith, at-S (wordOf (S k)) (omega arith) ∙ ap S (omega arith))
 cut-again (Goto target) h =

@@ -1,3 +1,9 @@
 pub mod Refusal
 pub mod Word
 pub mod Unit
+pub mod Rule
+pub mod Control
+pub mod Iterate
+pub mod Machine
+pub mod Clock
+pub mod Instruction

@@ -12,6 +12,14 @@ accepted = 0
 abbrev pub wordAbove4095 : ℕ
 wordAbove4095 = 10
 
+-- 11: "image above 256 words"
+abbrev pub imageAbove256Words : ℕ
+imageAbove256Words = 11
+
+-- 12: "not exactly 16 cells"
+abbrev pub notSixteenCells : ℕ
+notSixteenCells = 12
+
 -- 13: "SR above 15 or IR above 4095"
 abbrev pub registerOutOfRange : ℕ
 registerOutOfRange = 13
@@ -19,6 +27,10 @@ registerOutOfRange = 13
 -- 14: "an instruction field or mode outside its range"
 abbrev pub fieldOutOfRange : ℕ
 fieldOutOfRange = 14
+
+-- 33: "one instruction asked for when FETCH is not next"
+abbrev pub fetchNotNext : ℕ
+fetchNotNext = 33
 
 -- one check: whether its rule is broken, and the number that it then gives
 pub record Check : Type 0 where

@@ -55,6 +55,10 @@ flagC = 2
 abbrev pub flagZ : ℕ
 flagZ = 3
 
+-- whether flag f of SR is 1
+unfoldable pub flag : ℕ → ℕ → Bool
+flag f sr = isSet f sr
+
 -- The table of words from its right side to its left: the word in which an instruction's fields stand by position.
 unfoldable pub wordOf : Instruction → ℕ
 wordOf (S k) = 0b0000 * 2 ^ 8 + k

@@ -4,10 +4,10 @@ ghost use Prim.Native.Nat.{_+_, _-_, _%_, _<_};
 ghost use lib.Dec.{ltb};
 ghost use lib.IntN.{_+ℤ_, _-ℤ_};
 ghost use Rattle.core.specs.Unit.{signed, outside, rotatedLeft, filledRight, oneIf, packed, ifShifted, row, rowAt, merged, computedAs, UnitPromise};
-ghost use Rattle.core.specs.Word.{isSet};
 use super::refusal::ACCEPTED;
 use super::refusal::FIELD_OUT_OF_RANGE;
 use super::refusal::REGISTER_OUT_OF_RANGE;
+use super::word::is_set;
 use std::num::wrapping_add_u8;
 use std::num::wrapping_sub_u8;
 
@@ -39,13 +39,6 @@ const ZCS: u8 = 0b1110;
 
 const ZCSO: u8 = 0b1111;
 
-fn is_set(k: u16, byte: u8) -> bool
-    requires { ⌜ k < 16 ⌝ }
-    ensures { λ r. ⌜ r ≡ isSet k byte ⌝ }
-{
-    (byte as u16) >> k & 1 == 1
-}
-
 // C of a sum.
 fn carries(a: u8, b: u8) -> bool
     ensures { λ r. ⌜ r ≡ ltb 255 (a + b) ⌝ }
@@ -57,8 +50,8 @@ fn carries(a: u8, b: u8) -> bool
 fn sum_out(a: u8, b: u8) -> bool
     ensures { λ r. ⌜ r ≡ outside (signed a +ℤ signed b) ⌝ }
 {
-    let sign = is_set(7, wrapping_add_u8(a, b));
-    (is_set(7, a) ^ sign) & (is_set(7, b) ^ sign)
+    let sign = is_set(7, wrapping_add_u8(a, b) as u16);
+    (is_set(7, a as u16) ^ sign) & (is_set(7, b as u16) ^ sign)
 }
 
 // O of a difference: adding b to it again overflows.
@@ -126,7 +119,7 @@ fn row_at(mode: u8, a: u8, b: u8) -> UnitRow
     let n = count(a);
     let zc = if_shifted(n, ZC, NONE);
     let zcs = if_shifted(n, ZCS, ONLY_S);
-    let out = is_set(below(n), b);
+    let out = is_set(below(n), b as u16);
     match mode {
         0x0 => row(wrapping_add_u8(a, b), ZCSO, carries(a, b), sum_out(a, b)),
         0x1 => row(wrapping_sub_u8(a, b), ZCSO, a < b, difference_out(a, b)),
@@ -140,14 +133,14 @@ fn row_at(mode: u8, a: u8, b: u8) -> UnitRow
         0x9 => row(wrapping_sub_u8(b, 1), ZCSO, b == 0, b == 128),
         0xA => row(rotated_left(b, n), NONE, false, false),
         0xB => row(rotated_left(b, 8 - n), NONE, false, false),
-        0xC => row(b << n, zc, is_set(8 - n, b), false),
+        0xC => row(b << n, zc, is_set(8 - n, b as u16), false),
         0xD => row(b >> n, zc, out, false),
         0xE => row(filled_right(b, n), zcs, out, false),
         _ => row(wrapping_sub_u8(0, b), ZCSO, 0 < b, b == 128),
     }
 }
 
-fn one_if(test: bool) -> u8
+pub(crate) fn one_if(test: bool) -> u8
     ensures { λ r. ⌜ (r ≡ oneIf test) × (r < 2) ⌝ }
 {
     test as u8
@@ -190,7 +183,12 @@ pub fn unit(mode: u8, a: u8, b: u8, sr: u8) -> Computed
     }
     let row = row_at(mode, a, b);
     let result = row.result;
-    let given = pack(result == 0, row.carry, is_set(7, result), row.overflow);
+    let given = pack(
+        result == 0,
+        row.carry,
+        is_set(7, result as u16),
+        row.overflow,
+    );
     Computed {
         refusal: ACCEPTED,
         result,

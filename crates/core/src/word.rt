@@ -2,7 +2,7 @@
 ghost use mathlib.Core.Path.{_≡_};
 ghost use mathlib.Core.Bool.{true};
 ghost use Prim.Native.Nat.{_+_, _-_, _*_, _^_, _<_, _≤_};
-ghost use Rattle.core.specs.Word.{bits, instructionAt, fits, inRange, wordOf, DecodePromise, EncodePromise};
+ghost use Rattle.core.specs.Word.{bits, isSet, instructionAt, fits, inRange, wordOf, DecodePromise, EncodePromise};
 use super::address::DataAddress;
 use super::address::ProgramAddress;
 use super::refusal::ACCEPTED;
@@ -31,12 +31,20 @@ pub struct Encoded {
 }
 
 // Bits high..low of a word, at most eight of them.
-fn bits(high: u16, low: u16, word: u16) -> u8
+pub(crate) fn bits(high: u16, low: u16, word: u16) -> u8
     requires { ⌜ (low ≤ high) × (high < 16) × (high < low + 8) ⌝ }
     ensures { λ r. ⌜ r ≡ bits high low word ⌝ }
 {
     let mask = (2 << (high - low)) - 1;
     (word >> low & mask) as u8
+}
+
+// Bit k of a number.
+pub(crate) fn is_set(k: u16, number: u16) -> bool
+    requires { ⌜ k < 16 ⌝ }
+    ensures { λ r. ⌜ r ≡ isSet k number ⌝ }
+{
+    number >> k & 1 == 1
 }
 
 // Two fields side by side: high above the width bits of low.
@@ -48,7 +56,7 @@ fn join(high: u16, low: u16, width: u16) -> u16
 }
 
 // The table of words, left to right: the pattern of bits 11..8 picks the kind.
-fn instruction_at(word: u16) -> Instruction
+pub(crate) fn instruction_at(word: u16) -> Instruction
     ensures { λ r. ⌜ r ≡ instructionAt word ⌝ }
 {
     let kind = bits(11, 8, word);

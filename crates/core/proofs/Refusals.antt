@@ -1,0 +1,87 @@
+-- What is known where a call over a machine is not refused, and how 33 stands after the other checks.
+-- Assumes nothing.
+use Prim.Native.Nat.{ℕ, suc, _<_, _≤_}
+use mathlib.Core.Bool.{Bool, true, false, true≢false, cond, not, _||_}
+use mathlib.Core.List.{List}
+use mathlib.Core.Path.{_≡_, refl, sym}
+use native.Mathlib.Nat.{suc-ne-zero}
+use native.Mathlib.Omega.{arith}
+use borrow.Author.Tests.{ltb-false, eqb-true, not-false}
+use lib.Dec.{eqb, ltb}
+use lib.ListN.{length}
+use Rattle.core.specs.Clock.{clockRefusal}
+use Rattle.core.specs.Instruction.{isFetch, instructionRefusal}
+use Rattle.core.specs.Machine.{State, state, anyAbove4095, Answers}
+use Rattle.core.specs.Refusal.{accepted, fetchNotNext}
+use Rattle.core.specs.declared.machine.Machine.{Machine}
+use Rattle.core.proofs.Running.{Fit}
+
+-- a rule that was not broken
+passed : (t : Bool) (n y : ℕ) → cond t (suc n) y ≡ 0 → (t ≡ false) × (y ≡ 0)
+passed true n y e = absurd (suc-ne-zero n e)
+passed false n y e = (refl, e)
+
+neither : (t u : Bool) → (t || u) ≡ false → (t ≡ false) × (u ≡ false)
+neither true u e = absurd (true≢false e)
+neither false u e = (refl, e)
+
+-- what holds where nothing is refused
+pub record Ready (machine : Machine) (image cells : List ℕ) : Type 0 where
+  pub short : length image ≤ 256
+  pub words : anyAbove4095 image ≡ false
+  pub fit : Fit (state machine cells)
+  pub word : machine .ir < 4096
+
+pub ready : (machine : Machine) (image cells : List ℕ) → clockRefusal machine image (length cells) ≡ accepted → Ready machine image cells
+unfolding clockRefusal
+ready machine image cells e =
+    let a = passed (ltb 256 (length image)) 10 _ e in
+    let b = passed (anyAbove4095 image) 9 _ (a .1) in
+    let c = passed (not (eqb (length cells) 16)) 11 _ (b .1) in
+    let d = passed (ltb 15 (machine .sr) || ltb 4095 (machine .ir)) 12 _ (c .1) in
+    let n = neither (ltb 15 (machine .sr)) (ltb 4095 (machine .ir)) (d .0) in
+    let s = ltb-false 15 (machine .sr) (n .0) in
+    let w = ltb-false 4095 (machine .ir) (n .1) in
+    record {
+      short = ltb-false 256 (length image) (a .0);
+      words = b .0;
+      fit = record { flags = omega arith; sixteen = sym (eqb-true (length cells) 16 (not-false _ (c .0))) };
+      word = omega arith;
+    }
+
+module _ (machine : Machine) (image : List ℕ) (cells : ℕ) where
+  -- with FETCH next, an instruction refuses what a clock refuses
+  pub fetch-next : isFetch (machine .stage) ≡ true → instructionRefusal machine image cells ≡ clockRefusal machine image cells
+  unfolding instructionRefusal clockRefusal
+  fetch-next e = rw e
+
+  -- 11, 10, 12 and 13, and then n
+  abbrev then : Bool → Bool → Bool → Bool → ℕ → ℕ
+  then t u v w n = cond t 11 (cond u 10 (cond v 12 (cond w 13 n)))
+
+  -- else it refuses everything, and 33 is the last number tried
+  last-33 : (t u v w : Bool) → then t u v w 33 ≡ cond (eqb (then t u v w 0) 0) 33 (then t u v w 0)
+  last-33 true u v w = refl
+  last-33 false true v w = refl
+  last-33 false false true w = refl
+  last-33 false false false true = refl
+  last-33 false false false false = refl
+
+  pub fetch-not-next : isFetch (machine .stage) ≡ false
+      → instructionRefusal machine image cells ≡ cond (eqb (clockRefusal machine image cells) accepted) fetchNotNext (clockRefusal machine image cells)
+  unfolding instructionRefusal clockRefusal
+  fetch-not-next e =
+      rw e (last-33 (ltb 256 (length image)) (anyAbove4095 image) (not (eqb cells 16)) (ltb 15 (machine .sr) || ltb 4095 (machine .ir)))
+
+-- and that is never 0
+pub never-accepted : (n : ℕ) → eqb (cond (eqb n accepted) fetchNotNext n) accepted ≡ false
+never-accepted n = go (eqb n accepted) refl
+  where
+    go : (t : Bool) → eqb n accepted ≡ t → eqb (cond t fetchNotNext n) accepted ≡ false
+    go true e = refl
+    go false e = e
+
+-- A refused call keeps all: its number, the machine and the cells that it was given, are what it promises.
+pub hands-back : (number : ℕ) (before after : State) → eqb number accepted ≡ false
+    → Answers number before after (record { refusal = number; machine = before .machine }) (before .cells)
+hands-back number before after e = rw e (refl, refl)
