@@ -2,21 +2,27 @@
 -- entries settles the constant table; and the unit is never given a mode above 15.
 -- Assumes nothing.
 use Prim.Native.Nat.{ℕ, zero, suc, _+_, _-_, _*_, _^_, _<_}
-use mathlib.Core.Bool.{Bool, true, false, not}
+use mathlib.Core.Bool.{Bool, true, false, not, _&&_, _||_}
 use mathlib.Core.List.{List}
-use mathlib.Core.Path.{_≡_, refl}
+use mathlib.Core.Path.{_≡_, _∙_, refl}
 use native.Mathlib.Omega.{arith}
+use borrow.Author.Tests.{le-ltb}
 use lib.Dec.{T, eqb, eqb→eq, lit<}
 use lib.ListN.{getD}
-use Rattle.core.specs.Control.{stageNumber, row, decodeRow, rowOf, controlRow}
+use Rattle.core.specs.Clock.{operand, resultOut, flagsOut}
+use Rattle.core.specs.Control.{stageNumber, row, enabled, accE, srE, irE, drE, pmemE, dmemE, dmemWE, aluE, decodeRow, enablesOfM, rowOf, controlRow}
+use Rattle.core.specs.Refusal.{accepted}
 use Rattle.core.specs.Rule.{Act, Pass, Go, OnCell, GoIf, OnImmediate, actOf}
-use Rattle.core.specs.Unit.{oneIf}
+use Rattle.core.specs.Unit.{oneIf, computedAs, computed}
 use Rattle.core.specs.Word.{bits, instructionAt}
+use Rattle.core.specs.declared.control.ControlRow.{ControlRow}
 use Rattle.core.specs.declared.control.Stage.{Stage}
 use Rattle.core.specs.declared.control.Stage.the-variants.{Fetch, Decode, Execute}
+use Rattle.core.specs.declared.machine.Machine.{Machine}
+use Rattle.core.specs.declared.unit.Computed.{Computed}
 use Rattle.core.specs.declared.word.Instruction.{Instruction}
 use Rattle.core.specs.declared.word.Instruction.the-variants.{S, Goto, M, JumpIf, I}
-use Rattle.core.proofs.Finite.{all-pairs, each-pair}
+use Rattle.core.proofs.Finite.{each, all-pairs, each-pair}
 use Rattle.core.proofs.Kind.{Kind, is-S, is-Goto, is-M, is-JumpIf, is-I, kind, at-S, at-Goto, at-M, at-JumpIf, at-I}
 use Rattle.core.proofs.Range.{FieldsFit, cut-fits}
 
@@ -97,3 +103,37 @@ mode-lt word stage sr = go (instructionAt word) (cut-fits word) stage
     go (M d mode cell) h Execute = h .1
     go (JumpIf f target) h Execute = lit< tt
     go (I mode immediate) h Execute = omega arith
+
+-- so with SR in range it refuses nothing, and what it gives out is what the definitions of a clock say
+pub unit-out : (m : Machine) (r : ControlRow) (b : ℕ) (out : Computed) → m .sr < 16 → r ≡ controlRow (m .ir) (m .stage) (m .sr)
+    → b ≡ operand r (m .ir) (m .dr) → out ≡ computed (r .mode) (m .acc) b (m .sr) → out ≡ computedAs accepted (resultOut r m) (flagsOut r m)
+unfolding computed resultOut flagsOut
+unit-out m r b out h e f g =
+    let mode : r .mode < 16 = rw e (mode-lt (m .ir) (m .stage) (m .sr)) in
+    g ∙ simp (f, le-ltb 15 (r .mode) (omega arith), le-ltb 15 (m .sr) (omega arith))
+
+-- a device that is read or written is enabled: nothing loads IR without PMem, DR without DMem, Acc or SR without the unit, or writes a cell without DMem
+abbrev implies : Bool → Bool → Bool
+implies t u = not t || u
+
+abbrev powered : ControlRow → Bool
+powered r =
+    implies (enabled irE r) (enabled pmemE r) && implies (enabled drE r) (enabled dmemE r) && implies (enabled accE r) (enabled aluE r)
+    && implies (enabled srE r) (enabled aluE r) && implies (enabled dmemWE r) (enabled dmemE r)
+
+pub all-powered : (word : ℕ) (stage : Stage) (sr : ℕ) → T (powered (controlRow word stage sr))
+unfolding controlRow
+all-powered word stage sr = go (instructionAt word) (cut-fits word) stage
+  where
+    go : (i : Instruction) → FieldsFit i → (stage : Stage) → T (powered (rowOf stage (actOf i) sr))
+    go i h Fetch = tt
+    go (S k) h Decode = tt
+    go (Goto target) h Decode = tt
+    go (M d mode cell) h Decode = tt
+    go (JumpIf f target) h Decode = tt
+    go (I mode immediate) h Decode = tt
+    go (S k) h Execute = tt
+    go (Goto target) h Execute = tt
+    go (M d mode cell) h Execute = each (λ n. powered (row (enablesOfM n) mode 1 1)) 2 tt d (h .0)
+    go (JumpIf f target) h Execute = tt
+    go (I mode immediate) h Execute = tt

@@ -1,10 +1,20 @@
--- Any two answers that a promise allows are equal, for every public function of this crate: each promise names the answer, or its number and values.
+-- Any two results that a promise allows are equal, for every public function of this crate: each promise names the answer, or its number and values,
+-- and the final content of what is lent.
 -- Assumes nothing.
 use Prim.Native.Nat.{ℕ}
+use mathlib.Core.List.{List}
 use mathlib.Core.Path.{_≡_, _∙_, ap, sym}
 use native.Mathlib.Omega.{arith}
+use Rattle.core.specs.Clock.{ClockPromise, RunPromise}
+use Rattle.core.specs.Control.{RowPromise}
+use Rattle.core.specs.Instruction.{InstructionPromise}
+use Rattle.core.specs.Machine.{FreshPromise}
 use Rattle.core.specs.Unit.{UnitPromise}
 use Rattle.core.specs.Word.{NumberAndValues, numberAndValues, DecodePromise, EncodePromise}
+use Rattle.core.specs.declared.control.Controlled.{Controlled}
+use Rattle.core.specs.declared.control.Stage.{Stage}
+use Rattle.core.specs.declared.machine.Clocked.{Clocked}
+use Rattle.core.specs.declared.machine.Machine.{Machine}
 use Rattle.core.specs.declared.unit.Computed.{Computed}
 use Rattle.core.specs.declared.word.Decoded.{Decoded}
 use Rattle.core.specs.declared.word.Encoded.{Encoded}
@@ -28,3 +38,22 @@ encode-determined i r s p q = p ∙ sym q
 
 pub unit-determined : (mode a b sr : ℕ) (r s : Computed) → UnitPromise mode a b sr r → UnitPromise mode a b sr s → r ≡ s
 unit-determined mode a b sr r s p q = p ∙ sym q
+
+pub row-determined : (word : ℕ) (stage : Stage) (sr : ℕ) (r s : Controlled) → RowPromise word stage sr r → RowPromise word stage sr s → r ≡ s
+row-determined word stage sr r s p q = p ∙ sym q
+
+pub fresh-determined : (r s : Machine) → FreshPromise r → FreshPromise s → r ≡ s
+fresh-determined r s p q = p ∙ sym q
+
+-- an answer and the cells that are left
+module _ (machine : Machine) (image cells : List ℕ) (r s : Clocked) (left right : List ℕ) where
+  pub run-determined : (clocks : ℕ) → RunPromise clocks machine image cells r left → RunPromise clocks machine image cells s right
+      → (r ≡ s) × (left ≡ right)
+  run-determined clocks p q = (p .0 ∙ sym (q .0), p .1 ∙ sym (q .1))
+
+  pub clock-determined : ClockPromise machine image cells r left → ClockPromise machine image cells s right → (r ≡ s) × (left ≡ right)
+  clock-determined p q = (p .0 ∙ sym (q .0), p .1 ∙ sym (q .1))
+
+  pub instruction-determined : InstructionPromise machine image cells r left → InstructionPromise machine image cells s right
+      → (r ≡ s) × (left ≡ right)
+  instruction-determined p q = (p .0 ∙ sym (q .0), p .1 ∙ sym (q .1))

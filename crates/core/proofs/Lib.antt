@@ -15,4 +15,6 @@ pub mod RoundTrip
 pub mod Running
 pub mod Shift
 pub mod Starred
+pub mod Stepping
 pub mod ThreeClocks
+pub mod WrongMachine

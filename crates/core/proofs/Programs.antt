@@ -3,7 +3,7 @@
 use Prim.Native.Nat.{ℕ, _*_}
 use mathlib.Core.List.{List, [], _∷_, _++_}
 use mathlib.Core.Path.{_≡_, refl}
-use lib.ListN.{length, replicate}
+use lib.ListN.{replicate}
 use Rattle.core.specs.Clock.{pcAfter, irAfter, drAfter, operand, resultOut, flagsOut, accAfter, srAfter, cellsAfter, clock}
 use Rattle.core.specs.Control.{controlRow}
 use Rattle.core.specs.Instruction.{instruction}

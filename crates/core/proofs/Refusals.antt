@@ -21,7 +21,7 @@ passed : (t : Bool) (n y : ℕ) → cond t (suc n) y ≡ 0 → (t ≡ false) × 
 passed true n y e = absurd (suc-ne-zero n e)
 passed false n y e = (refl, e)
 
-neither : (t u : Bool) → (t || u) ≡ false → (t ≡ false) × (u ≡ false)
+pub neither : (t u : Bool) → (t || u) ≡ false → (t ≡ false) × (u ≡ false)
 neither true u e = absurd (true≢false e)
 neither false u e = (refl, e)
 

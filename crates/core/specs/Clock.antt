@@ -41,15 +41,15 @@ unfoldable pub drAfter : ControlRow → Machine → List ℕ → ℕ
 drAfter row machine cells = cond (enabled drE row) (cellAt (cellOf (machine .ir)) cells) (machine .dr)
 
 -- "MUX2 = 0 picks IR[7:0], 1 picks DR.": the unit's operand 2. EXECUTE of M uses DR, whatever the cell holds by then.
-unfoldable pub operand : ControlRow → Machine → ℕ
-operand row machine = cond (eqb (row .mux2) 0) (bits 7 0 (machine .ir)) (machine .dr)
+unfoldable pub operand : ControlRow → ℕ → ℕ → ℕ
+operand row ir dr = cond (eqb (row .mux2) 0) (bits 7 0 ir) dr
 
 -- what the unit gives out
 unfoldable pub resultOut : ControlRow → Machine → ℕ
-resultOut row machine = unitResult (row .mode) (machine .acc) (operand row machine)
+resultOut row machine = unitResult (row .mode) (machine .acc) (operand row (machine .ir) (machine .dr))
 
 unfoldable pub flagsOut : ControlRow → Machine → ℕ
-flagsOut row machine = unitFlags (row .mode) (machine .acc) (operand row machine) (machine .sr)
+flagsOut row machine = unitFlags (row .mode) (machine .acc) (operand row (machine .ir) (machine .dr)) (machine .sr)
 
 unfoldable pub accAfter : ControlRow → Machine → ℕ
 accAfter row machine = cond (enabled accE row) (resultOut row machine) (machine .acc)

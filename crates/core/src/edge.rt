@@ -3,10 +3,10 @@ ghost use mathlib.Core.Path.{_≡_};
 ghost use mathlib.Core.Bool.{cond};
 ghost use Prim.Native.Nat.{_<_};
 ghost use lib.ListN.{length};
-ghost use Rattle.core.specs.Clock.{pcAfter, irAfter, drAfter, operand, resultOut, flagsOut, cellsAfter, cellOf, clock};
+ghost use Rattle.core.specs.Clock.{pcAfter, irAfter, operand, resultOut, cellsAfter, cellOf, clock};
 ghost use Rattle.core.specs.Control.{enabled, stageAfter};
 ghost use Rattle.core.specs.Machine.{state, memoryOf};
-ghost use Rattle.core.specs.Rule.{stepped};
+ghost use Rattle.core.specs.Rule.{cellAt, stepped};
 use super::address::DataAddress;
 use super::address::ProgramAddress;
 use super::control::ACC_E;
@@ -20,7 +20,6 @@ use super::control::Stage;
 use super::control::row_of;
 use super::image::word_at;
 use super::machine::Machine;
-use super::unit::Computed;
 use super::unit::unit;
 use super::word::bits;
 use super::word::is_set;
@@ -45,10 +44,11 @@ fn enabled(column: u16, row: ControlRow) -> bool
 }
 
 // What a register of eight bits holds after the edge.
-fn written(write: bool, new: u8, old: u8) -> u8
-    ensures { λ r. ⌜ r ≡ cond write new old ⌝ }
+fn written(column: u16, row: ControlRow, new: u8, old: u8) -> u8
+    requires { ⌜ column < 16 ⌝ }
+    ensures { λ r. ⌜ r ≡ cond (enabled column row) new old ⌝ }
 {
-    if write { new } else { old }
+    if enabled(column, row) { new } else { old }
 }
 
 // The PC adder: "PC steps by one, and 255 steps to 0".
@@ -86,30 +86,19 @@ fn cell_of(ir: u16) -> DataAddress
     DataAddress(bits(3, 0, ir))
 }
 
-fn dr_after(row: ControlRow, machine: Machine, cells: &[u8]) -> u8
+fn read_cell(ir: u16, cells: &[u8]) -> u8
     requires { ⌜ 16 ≡ length (now cells) ⌝ }
-    ensures { λ r. ⌜ r ≡ drAfter row machine (now (cells .entry)) ⌝ }
+    ensures { λ r. ⌜ r ≡ cellAt (cellOf ir) (now (cells .entry)) ⌝ }
 {
-    let cell = cell_of(machine.ir);
-    written(enabled(DR_E, row), cells[cell.0 as usize], machine.dr)
+    let cell = cell_of(ir);
+    cells[cell.0 as usize]
 }
 
-fn operand(row: ControlRow, machine: Machine) -> u8
-    ensures { λ r. ⌜ r ≡ operand row machine ⌝ }
+// The unit's operand 2. EXECUTE of M uses DR, whatever the cell holds by then.
+fn operand(row: ControlRow, ir: u16, dr: u8) -> u8
+    ensures { λ r. ⌜ r ≡ operand row ir dr ⌝ }
 {
-    if row.mux2 == 0 {
-        bits(7, 0, machine.ir)
-    } else {
-        machine.dr
-    }
-}
-
-// What the unit gives out.
-fn unit_out(row: ControlRow, machine: Machine) -> Computed
-    requires { ⌜ (row .mode < 16) × (machine .sr < 16) ⌝ }
-    ensures { λ r. ⌜ (r .result ≡ resultOut row machine) × (r .flags ≡ flagsOut row machine) ⌝ }
-{
-    unit(row.mode, machine.acc, operand(row, machine), machine.sr)
+    if row.mux2 == 0 { bits(7, 0, ir) } else { dr }
 }
 
 fn write_cell(row: ControlRow, machine: Machine, result: u8, cells: &mut [u8])
@@ -129,13 +118,15 @@ pub(crate) fn edge(machine: Machine, image: &[u16], cells: &mut [u8]) -> Machine
 {
     let stage = machine.stage;
     let row = row_of(machine.ir, stage, machine.sr);
-    let out = unit_out(row, machine);
+    let cell = read_cell(machine.ir, &*cells);
+    let b = operand(row, machine.ir, machine.dr);
+    let out = unit(row.mode, machine.acc, b, machine.sr);
     let after = Machine {
         pc: pc_after(row, machine),
         ir: ir_after(row, machine, image),
-        dr: dr_after(row, machine, &*cells),
-        acc: written(enabled(ACC_E, row), out.result, machine.acc),
-        sr: written(enabled(SR_E, row), out.flags, machine.sr),
+        dr: written(DR_E, row, cell, machine.dr),
+        acc: written(ACC_E, row, out.result, machine.acc),
+        sr: written(SR_E, row, out.flags, machine.sr),
         stage: stage_after(stage),
     };
     write_cell(row, machine, out.result, cells);

@@ -1,29 +1,38 @@
--- `core::edge::edge` meets its promise: each register's next value is a function of its own, and so is the cells'.
+-- `core::edge::edge` meets its promise: each register's next value is a function of its own, and so is the cells'; the unit is in range (`unit-out`).
 -- Assumes nothing.
+use mathlib.Core.Path.{ap}
 use borrow.Author.Needs.{needs}
-use Rattle.core.specs.Clock.{accAfter, srAfter, clock}
-use Rattle.core.proofs.ClockTable.{mode-lt}
+use Rattle.core.specs.Clock.{drAfter, accAfter, srAfter, clock}
+use Rattle.core.specs.declared.unit.Computed.{Computed}
+use Rattle.core.proofs.ClockTable.{unit-out}
 use Rattle.core.proofs.edge.edge.Statement.{statement}
 use Rattle.core.proofs.edge.edge.Tie as tie
 
-unit-out-requires : tie.Need-unit-out-requires
-unit-out-requires c κs = (rw (c .row-of .ensures) (mode-lt _ _ _), c .before .before .before .pre .0)
+write-cell-requires : tie.Need-write-cell-requires
+write-cell-requires c κs =
+    let start = c .before .before .before .before .before .before .before .before .before .before .before .before .before .before in
+    let unit = c .before .before .before .before .before .before .before in
+    let control = c .before .before .before .before .before .before .before .before .before .before .before in
+    let u = unit-out (start .args .machine) _ _ _ (start .pre .0) (control .row-of .ensures) (unit .before .operand .ensures) (unit .unit .ensures) in
+    (start .pre .1, ap (λ (out : Computed). out .result) u)
 
 returns : tie.Need-returns
-unfolding accAfter srAfter clock
+unfolding drAfter accAfter srAfter clock
 returns c =
+    let start = c .before .before .before .before .before .before .before .before .before .before .before .before .before .before .before .before .before in
     let registers = c .before .before .before .before in
-    let memories = registers .before .before .before .before in
-    let control = memories .before .before .before .before in
+    let memories = c .before .before .before .before .before .before .before .before in
+    let unit = c .before .before .before .before .before .before .before .before .before .before in
+    let control = c .before .before .before .before .before .before .before .before .before .before .before .before .before .before in
+    let u = unit-out (start .args .machine) _ _ _ (start .pre .0) (control .row-of .ensures) (unit .before .operand .ensures) (unit .unit .ensures) in
     simp
-    (c .before .before .write-cell .ensures, registers .stage-after .ensures, registers .before .written2 .ensures, registers .before .before .enabled2 .ensures, registers .before .before .before .written .ensures, memories .enabled .ensures, memories .before .dr-after .ensures, memories .before .before .before .ir-after .ensures, control .pc-after .ensures, control .before .unit-out .ensures .0, control .before .unit-out .ensures .1, control .before .before .row-of .ensures)
+    (c .before .before .write-cell .ensures, registers .stage-after .ensures, registers .before .written3 .ensures, registers .before .before .written2 .ensures, registers .before .before .before .written .ensures, memories .ir-after .ensures, memories .before .pc-after .ensures, u, unit .before .before .read-cell .ensures, control .row-of .ensures)
 
 pub edge-spec : {M : Type 1} → statement M
 edge-spec =
     tie.close
     (tie.spec
     (λ c κs. search needs)
-    unit-out-requires
     (λ c κs. search needs)
     (λ c κs. search needs)
     (λ c κs. search needs)
@@ -33,5 +42,6 @@ edge-spec =
     (λ c κs. search needs)
     (λ c κs. search needs)
     (λ c κs. search needs)
+    write-cell-requires
     (λ c. search needs)
     returns)
