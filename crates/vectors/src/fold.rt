@@ -1,4 +1,5 @@
 // Digests: a sequence of numbers becomes one number, which all but surely changes with any of them and with their order.
+use core::control::Controlled;
 use core::unit::Computed;
 use core::word::Decoded;
 use core::word::Encoded;
@@ -7,7 +8,7 @@ use core::word::Instruction;
 // The digest of no number.
 pub(crate) const START: u32 = 0;
 
-fn fold(digest: u32, number: u32) -> u32 {
+pub(crate) fn fold(digest: u32, number: u32) -> u32 {
     (((digest as u64) * 16777619 + (number as u64) + 1) % 4294967291) as u32
 }
 
@@ -22,6 +23,15 @@ pub(crate) fn fold_encoded(digest: u32, answer: Encoded) -> u32 {
     let refusal = answer.refusal as u32;
     let word = answer.word as u32;
     fold(digest, refusal * 65536 + word)
+}
+
+pub(crate) fn fold_controlled(digest: u32, answer: Controlled) -> u32 {
+    let row = answer.row;
+    let with_refusal = fold(digest, answer.refusal as u32);
+    let with_enables = fold(with_refusal, row.enables as u32);
+    let with_mode = fold(with_enables, row.mode as u32);
+    let with_mux1 = fold(with_mode, row.mux1 as u32);
+    fold(with_mux1, row.mux2 as u32)
 }
 
 fn fold_kind(digest: u32, kind: u8, first: u8, second: u8, third: u8) -> u32 {
