@@ -5,7 +5,7 @@ use Prim.Native.Nat.{ℕ}
 use mathlib.Core.List.{List}
 use mathlib.Core.Path.{_≡_, _∙_, ap, sym}
 use native.Mathlib.Omega.{arith}
-use Rattle.core.specs.Clock.{ClockPromise, RunPromise}
+use Rattle.core.specs.Clock.{ClockPromise, ClockInPlacePromise, RunPromise}
 use Rattle.core.specs.Control.{RowPromise}
 use Rattle.core.specs.Instruction.{InstructionPromise}
 use Rattle.core.specs.Machine.{FreshPromise}
@@ -57,3 +57,11 @@ module _ (machine : Machine) (image cells : List ℕ) (r s : Clocked) (left righ
   pub instruction-determined : InstructionPromise machine image cells r left → InstructionPromise machine image cells s right
       → (r ≡ s) × (left ≡ right)
   instruction-determined p q = (p .0 ∙ sym (q .0), p .1 ∙ sym (q .1))
+
+-- of a machine that is lent: the number that is returned, the machine that is left in its place, and the cells
+pub clock-in-place-determined : (machine : Machine) (image cells : List ℕ) (m n : ℕ) (left right : Machine) (after over : List ℕ)
+    → ClockInPlacePromise machine image cells m left after → ClockInPlacePromise machine image cells n right over
+    → (m ≡ n) × (left ≡ right) × (after ≡ over)
+clock-in-place-determined machine image cells m n left right after over p q =
+    let e = p .0 ∙ sym (q .0) in
+    (ap (λ (r : Clocked). r .refusal) e, ap (λ (r : Clocked). r .machine) e, p .1 ∙ sym (q .1))

@@ -7,5 +7,6 @@ mod edge;
 mod image;
 pub mod machine;
 pub mod refusal;
+pub mod socket;
 pub mod unit;
 pub mod word;
