@@ -1,7 +1,7 @@
 -- Three clocks of a machine about to fetch are one instruction, for every memory and every state. FETCH and DECODE write IR and DR alone; at EXECUTE
 -- each kind's row lets through what its rule says, with the fields cut from IR by position. What the layers above use of it is `ran`.
 -- Assumes nothing.
-use Prim.Native.Nat.{ℕ, _≤_}
+use Prim.Native.Nat.{ℕ, _<_, _≤_}
 use mathlib.Core.Bool.{Bool, true, false}
 use mathlib.Core.List.{List}
 use mathlib.Core.Path.{_≡_, refl}
@@ -10,10 +10,10 @@ use borrow.Author.Tests.{eqb-true, eqb-false}
 use lib.Dec.{eqb}
 use Rattle.core.specs.Clock.{pcAfter, irAfter, drAfter, operand, resultOut, flagsOut, accAfter, srAfter, cellsAfter, clock}
 use Rattle.core.specs.Control.{controlRow}
-use Rattle.core.specs.Instruction.{instruction, Ran}
+use Rattle.core.specs.Instruction.{visible, instruction, Ran}
 use Rattle.core.specs.Iterate.{iterate}
 use Rattle.core.specs.Machine.{State, state, Memory}
-use Rattle.core.specs.Rule.{actOf, effect, next}
+use Rattle.core.specs.Rule.{actOf, effect, stepped, next}
 use Rattle.core.specs.Word.{bits, flag, inRange, wordOf}
 use Rattle.core.specs.declared.control.Stage.the-variants.{Fetch}
 use Rattle.core.specs.declared.machine.Machine.{Machine}
@@ -68,3 +68,11 @@ pub ran : (memory : Memory) (i : Instruction) (s : State) → inRange i ≡ true
 unfolding instruction
 ran memory i s h f e =
     rw (three memory s f, e, cut-again i (fields-fit i h) .1) (record { sees = refl; to = refl; ends = refl })
+
+-- "all 256 S words do nothing except step PC": after the three clocks of one, what is seen is as it was
+pub s-words : (memory : Memory) (s : State) → memory (s .machine .pc) < 256 → s .machine .stage ≡ Fetch
+    → (visible (iterate (clock memory) 3 s) ≡ visible s) × (iterate (clock memory) 3 s .machine .pc ≡ stepped (s .machine .pc))
+unfolding instruction effect next
+s-words memory s h f =
+    let e : bits 11 8 (memory (s .machine .pc)) ≡ 0b0000 = omega arith in
+    rw (three memory s f, at-S (memory (s .machine .pc)) e) (refl, refl)
