@@ -3,7 +3,7 @@
 use Prim.Native.Nat.{ℕ, suc, _<_, _≤_}
 use mathlib.Core.Bool.{Bool, true, false, true≢false, cond, not, _||_}
 use mathlib.Core.List.{List}
-use mathlib.Core.Path.{_≡_, refl, sym}
+use mathlib.Core.Path.{_≡_, refl}
 use native.Mathlib.Nat.{suc-ne-zero}
 use native.Mathlib.Omega.{arith}
 use borrow.Author.Tests.{ltb-false, eqb-true, not-false}
@@ -11,7 +11,7 @@ use lib.Dec.{eqb, ltb}
 use lib.ListN.{length}
 use Rattle.core.specs.Clock.{clockRefusal}
 use Rattle.core.specs.Instruction.{isFetch, instructionRefusal}
-use Rattle.core.specs.Machine.{State, state, anyAbove4095, Answers}
+use Rattle.core.specs.Machine.{State, state, anyAbove4095, clockedAs, Answers}
 use Rattle.core.specs.Refusal.{accepted, fetchNotNext}
 use Rattle.core.specs.declared.machine.Machine.{Machine}
 use Rattle.core.proofs.Running.{Fit}
@@ -45,7 +45,7 @@ ready machine image cells e =
     record {
       short = ltb-false 256 (length image) (a .0);
       words = b .0;
-      fit = record { flags = omega arith; sixteen = sym (eqb-true (length cells) 16 (not-false _ (c .0))) };
+      fit = record { flags = omega arith; sixteen = eqb-true (length cells) 16 (not-false _ (c .0)) };
       word = omega arith;
     }
 
@@ -83,5 +83,5 @@ never-accepted n = go (eqb n accepted) refl
 
 -- A refused call keeps all: its number, the machine and the cells that it was given, are what it promises.
 pub hands-back : (number : ℕ) (before after : State) → eqb number accepted ≡ false
-    → Answers number before after (record { refusal = number; machine = before .machine }) (before .cells)
+    → Answers number before after (clockedAs number (before .machine)) (before .cells)
 hands-back number before after e = rw e (refl, refl)

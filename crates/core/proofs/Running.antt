@@ -3,7 +3,7 @@
 use Prim.Native.Nat.{ℕ, zero, suc, _<_}
 use mathlib.Core.Bool.{Bool, true, false}
 use mathlib.Core.List.{List}
-use mathlib.Core.Path.{_≡_, refl, sym, _∙_}
+use mathlib.Core.Path.{_≡_, refl, _∙_}
 use native.Mathlib.Omega.{arith}
 use lib.Dec.{lit<}
 use lib.ListN.{length, length-set}
@@ -46,19 +46,19 @@ flags-lt mode a b sr = merged-lt (rowAt mode a b .sets) (rowFlags (rowAt mode a 
 -- what a clock goes by
 pub record Fit (s : State) : Type 0 where
   pub flags : s .machine .sr < 16
-  pub sixteen : 16 ≡ length (s .cells)
+  pub sixteen : length (s .cells) ≡ 16
 
 sr-lt : (row : ControlRow) (machine : Machine) → machine .sr < 16 → srAfter row machine < 16
 unfolding srAfter flagsOut
 sr-lt row machine h = either (λ (n : ℕ). n < 16) (enabled srE row) _ _ (flags-lt _ _ _ _) h
 
-pub same-length : (row : ControlRow) (machine : Machine) (cells : List ℕ) → length cells ≡ length (cellsAfter row machine cells)
+same-length : (row : ControlRow) (machine : Machine) (cells : List ℕ) → length (cellsAfter row machine cells) ≡ length cells
 unfolding cellsAfter
 same-length row machine cells =
-    either (λ (l : List ℕ). length cells ≡ length l) (enabled dmemWE row) _ _
-    (sym (length-set cells (cellOf (machine .ir) .0) (resultOut row machine))) refl
+    either (λ (l : List ℕ). length l ≡ length cells) (enabled dmemWE row) _ _
+    (length-set cells (cellOf (machine .ir) .0) (resultOut row machine)) refl
 
 pub stays-fit : (memory : Memory) (s : State) → Fit s → Fit (clock memory s)
 unfolding clock
 stays-fit memory s f =
-    record { flags = sr-lt _ (s .machine) (f .flags); sixteen = f .sixteen ∙ same-length _ (s .machine) (s .cells) }
+    record { flags = sr-lt _ (s .machine) (f .flags); sixteen = same-length _ (s .machine) (s .cells) ∙ f .sixteen }

@@ -3,7 +3,7 @@
 use Prim.Native.Nat.{ℕ, zero, suc, _<_}
 use mathlib.Core.Bool.{Bool, true, false, not}
 use mathlib.Core.List.{List, [], _∷_}
-use mathlib.Core.Path.{_≡_, refl, sym, ap}
+use mathlib.Core.Path.{_≡_, refl, ap}
 use native.Mathlib.Omega.{arith}
 use borrow.Author.Tests.{le-ltb, eq-eqb, ltb-false, eqb-true}
 use lib.Dec.{eqb, ltb, lit<}
@@ -11,7 +11,7 @@ use lib.ListN.{length, getD}
 use Rattle.core.specs.Clock.{irAfter, clock, clockRefusal, ClockPromise, RunPromise}
 use Rattle.core.specs.Control.{enabled, irE, controlRow}
 use Rattle.core.specs.Iterate.{iterate}
-use Rattle.core.specs.Machine.{State, state, undrawn, memoryOf, anyAbove4095}
+use Rattle.core.specs.Machine.{State, state, undrawn, memoryOf, anyAbove4095, clockedAs}
 use Rattle.core.specs.Refusal.{accepted}
 use Rattle.core.specs.declared.machine.Clocked.{Clocked}
 use Rattle.core.specs.declared.machine.Machine.{Machine}
@@ -51,7 +51,7 @@ module _ (image : List ℕ) where
   fine s r =
       let f = r .fit .flags in
       let w = r .word in
-      simp (le-ltb 256 (length image) (r .short), r .words, eq-eqb (length (s .cells)) 16 (sym (r .fit .sixteen)), le-ltb 15 (s .machine .sr) (omega arith), le-ltb 4095 (s .machine .ir) (omega arith))
+      simp (le-ltb 256 (length image) (r .short), r .words, eq-eqb (length (s .cells)) 16 (r .fit .sixteen), le-ltb 15 (s .machine .sr) (omega arith), le-ltb 4095 (s .machine .ir) (omega arith))
 
   -- ONE CLOCK AFTER A RUN IS A RUN OF ONE MORE, refused or not
   pub one-more : (n : ℕ) (machine : Machine) (cells : List ℕ) (r s : Clocked) (left right : List ℕ)
@@ -67,11 +67,11 @@ module _ (image : List ℕ) where
       go : (t : Bool) → eqb number accepted ≡ t → RunPromise (suc n) machine image cells s right
       go true e =
           let z = eqb-true number accepted e in
-          let p′ : (r ≡ record { refusal = accepted; machine = reached .machine }) × (left ≡ reached .cells) = rw z at p in
+          let p′ : (r ≡ clockedAs accepted (reached .machine)) × (left ≡ reached .cells) = rw z at p in
           let m : r .machine ≡ reached .machine = ap (λ (a : Clocked). a .machine) (p′ .0) in
           let f = fine reached (accepted-after n (state machine cells) (ready machine image cells z)) in
           rw (z, iterate-last (clock (memoryOf image)) n (state machine cells)) (rw (m, p′ .1, f) at q)
       go false e =
-          let p′ : (r ≡ record { refusal = number; machine = machine }) × (left ≡ cells) = rw e at p in
+          let p′ : (r ≡ clockedAs number machine) × (left ≡ cells) = rw e at p in
           let m : r .machine ≡ machine = ap (λ (a : Clocked). a .machine) (p′ .0) in
           rw e (rw (m, p′ .1, e) at q)

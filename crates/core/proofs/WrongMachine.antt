@@ -10,7 +10,8 @@ use Rattle.core.specs.Clock.{pcAfter, irAfter, drAfter, operand, resultO
 use Rattle.core.specs.Control.{stageAfter, controlRow}
 use Rattle.core.specs.Instruction.{instruction}
 use Rattle.core.specs.Iterate.{iterate}
-use Rattle.core.specs.Machine.{State, state, Memory, freshlyLoaded, memoryOf}
+use Rattle.core.specs.Machine.{State, state, Memory, freshlyLoaded, memoryOf, clockedAs}
+use Rattle.core.specs.Refusal.{accepted}
 use Rattle.core.specs.Rule.{effect, next}
 use Rattle.core.specs.Unit.{table, unitResult, unitFlags}
 use Rattle.core.specs.Word.{instructionAt}
@@ -49,6 +50,6 @@ abbrev wrong : State
 wrong = whole-at-fetch (memoryOf image) (state freshlyLoaded cells)
 
 -- THE PROMISE IS FALSE OF IT
-pub refused : ClockPromise freshlyLoaded image cells (record { refusal = 0; machine = wrong .machine }) (wrong .cells) → ⊥
+pub refused : ClockPromise freshlyLoaded image cells (clockedAs accepted (wrong .machine)) (wrong .cells) → ⊥
 unfolding clock clockRefusal instruction controlRow pcAfter irAfter drAfter operand resultOut flagsOut accAfter srAfter cellsAfter effect next instructionAt table unitResult unitFlags
 refused p = let e : _≡_ {A = ℕ} 1 0 = ap (λ (r : Clocked). r .machine .acc) (p .0) in absurd (omega arith)

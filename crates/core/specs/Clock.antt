@@ -7,7 +7,7 @@ use lib.Dec.{eqb}
 use lib.ListN.{length, set}
 use Rattle.core.specs.Control.{enabled, pcE, accE, srE, irE, drE, dmemWE, stageAfter, controlRow}
 use Rattle.core.specs.Iterate.{iterate}
-use Rattle.core.specs.Machine.{State, state, Memory, memoryOf, machineChecks, Answers}
+use Rattle.core.specs.Machine.{State, state, Memory, memoryOf, machineChecks, clockedAs, Answers}
 use Rattle.core.specs.Refusal.{firstBroken}
 use Rattle.core.specs.Rule.{cellAt, stepped}
 use Rattle.core.specs.Unit.{unitResult, unitFlags}
@@ -96,4 +96,4 @@ ClockPromise machine image cells =
 
 -- The same of a machine that is lent: the number that is returned, the machine that is left in its place, and the cells.
 abbrev pub ClockInPlacePromise : Machine → List ℕ → List ℕ → ℕ → Machine → List ℕ → Type 0
-ClockInPlacePromise machine image cells number left = ClockPromise machine image cells (record { refusal = number; machine = left })
+ClockInPlacePromise machine image cells number left = ClockPromise machine image cells (clockedAs number left)

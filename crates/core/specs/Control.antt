@@ -100,7 +100,7 @@ rowOf Execute act sr = executeRow act sr
 unfoldable pub controlRow : ℕ → Stage → ℕ → ControlRow
 controlRow word stage sr = rowOf stage (actOf (instructionAt word)) sr
 
--- "A control row asked for directly" refuses 10, then 13: our reading, docs/DECISIONS.md
+-- Document 01 has no order for a row that is asked for by itself: 10, then 13 is our reading (docs/DECISIONS.md, 15).
 abbrev pub rowRefusal : ℕ → ℕ → ℕ
 rowRefusal word sr = firstBroken (check (ltb 4095 word) wordAbove4095 ∷ check (ltb 15 sr) registerOutOfRange ∷ [])
 

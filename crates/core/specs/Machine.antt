@@ -58,7 +58,10 @@ machineChecks machine image cells =
 abbrev pub leaves : ℕ → State → State → State
 leaves number before after = cond (eqb number accepted) after before
 
+abbrev pub clockedAs : ℕ → Machine → Clocked
+clockedAs number machine = record { refusal = number; machine = machine }
+
 -- What a call over a machine and its cells promises: its answer has the number and the machine that is left, and the cells are those that are left.
 abbrev pub Answers : ℕ → State → State → Clocked → List ℕ → Type 0
 Answers number before after answer cells =
-    (answer ≡ record { refusal = number; machine = leaves number before after .machine }) × (cells ≡ leaves number before after .cells)
+    (answer ≡ clockedAs number (leaves number before after .machine)) × (cells ≡ leaves number before after .cells)

@@ -17,7 +17,7 @@ use super::refusal::FETCH_NOT_NEXT;
 
 // So many clocks of a machine that is not refused. The image is not scanned again.
 fn clocked(machine: Machine, image: &[u16], cells: &mut [u8], clocks: u64) -> Machine
-    requires { ⌜ (machine .sr < 16) × (16 ≡ length (now cells)) ⌝ }
+    requires { ⌜ (machine .sr < 16) × (length (now cells) ≡ 16) ⌝ }
     ensures { λ r. ⌜ state r (now (cells .exit)) ≡ iterate (clock (memoryOf (now (image .entry)))) clocks (state machine (now (cells .entry))) ⌝ }
 {
     let mut at = machine;

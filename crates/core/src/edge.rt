@@ -87,7 +87,7 @@ fn cell_of(ir: u16) -> DataAddress
 }
 
 fn read_cell(ir: u16, cells: &[u8]) -> u8
-    requires { ⌜ 16 ≡ length (now cells) ⌝ }
+    requires { ⌜ length (now cells) ≡ 16 ⌝ }
     ensures { λ r. ⌜ r ≡ cellAt (cellOf ir) (now (cells .entry)) ⌝ }
 {
     let cell = cell_of(ir);
@@ -102,7 +102,7 @@ fn operand(row: ControlRow, ir: u16, dr: u8) -> u8
 }
 
 fn write_cell(row: ControlRow, machine: Machine, result: u8, cells: &mut [u8])
-    requires { ⌜ (16 ≡ length (now cells)) × (result ≡ resultOut row machine) ⌝ }
+    requires { ⌜ (length (now cells) ≡ 16) × (result ≡ resultOut row machine) ⌝ }
     ensures { λ _. ⌜ now (cells .exit) ≡ cellsAfter row machine (now (cells .entry)) ⌝ }
 {
     let cell = cell_of(machine.ir);
@@ -113,7 +113,7 @@ fn write_cell(row: ControlRow, machine: Machine, result: u8, cells: &mut [u8])
 
 // One clock of a machine and its cells.
 pub(crate) fn edge(machine: Machine, image: &[u16], cells: &mut [u8]) -> Machine
-    requires { ⌜ (machine .sr < 16) × (16 ≡ length (now cells)) ⌝ }
+    requires { ⌜ (machine .sr < 16) × (length (now cells) ≡ 16) ⌝ }
     ensures { λ r. ⌜ state r (now (cells .exit)) ≡ clock (memoryOf (now (image .entry))) (state machine (now (cells .entry))) ⌝ }
 {
     let stage = machine.stage;

@@ -41,7 +41,7 @@ returns c =
     rw (sym e) (l .inv .2)
 
 same-length : tie.Need-same-length Inv-loop μ-loop
-same-length c = sym (c .before .loop .inv .1 .sixteen) ∙ c .before .before .before .before .pre .1
+same-length c = c .before .loop .inv .1 .sixteen ∙ sym (c .before .before .before .before .pre .1)
 
 pub clocked-spec : {M : Type 1} → statement M
 clocked-spec =
