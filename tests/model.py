@@ -697,6 +697,7 @@ if __name__ == "__main__":
     print_tests()
     print_trace("test 2", image_of(TESTS[2]), 30)
     print_trace("the example", EXAMPLE, 27)
+    print_trace("the last entry", (0x1FF,), 6)
     print_rows()
     print_call_refusals()
     print_clock_digests()

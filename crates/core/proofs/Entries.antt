@@ -2,7 +2,7 @@
 -- if the largest is, so that a running maximum settles the scan.
 -- Assumes nothing.
 use Prim.Native.Nat.{ℕ, zero, suc, _+_, _<_}
-use mathlib.Core.Bool.{Bool, true, false, cond, _||_}
+use mathlib.Core.Bool.{Bool, true, false, cond, _||_, or-false}
 use mathlib.Core.List.{List, [], _∷_}
 use mathlib.Core.Path.{_≡_, refl}
 use native.Mathlib.Nat.{not-suc-le-zero, le-of-suc-le-suc}
@@ -18,10 +18,6 @@ pub inside : (l : List ℕ) (i d e : ℕ) → i < length l → getD l i d ≡ ge
 inside [] i d e h = absurd (not-suc-le-zero h)
 inside (x ∷ l) zero d e h = refl
 inside (x ∷ l) (suc i) d e h = inside l i d e (le-of-suc-le-suc h)
-
-pub or-false : (t : Bool) → (t || false) ≡ t
-or-false true = refl
-or-false false = refl
 
 or-assoc : (t u v : Bool) → ((t || u) || v) ≡ (t || (u || v))
 or-assoc true u v = refl

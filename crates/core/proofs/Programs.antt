@@ -8,10 +8,10 @@ use Rattle.core.specs.Clock.{pcAfter, irAfter, drAfter, operand, resultO
 use Rattle.core.specs.Control.{controlRow}
 use Rattle.core.specs.Instruction.{instruction}
 use Rattle.core.specs.Iterate.{iterate}
-use Rattle.core.specs.Machine.{State, state, freshlyLoaded, undrawn, memoryOf}
-use Rattle.core.specs.Rule.{effect, next}
+use Rattle.core.specs.Machine.{State, state, freshlyLoaded, memoryOf}
+use Rattle.core.specs.Rule.{effect, stepped, next}
 use Rattle.core.specs.Unit.{table, unitResult, unitFlags}
-use Rattle.core.specs.Word.{instructionAt, flag}
+use Rattle.core.specs.Word.{programAddress, instructionAt, flag}
 
 -- PC, Acc, SR and the cells
 pub record Seen : Type 0 where
@@ -23,15 +23,15 @@ pub record Seen : Type 0 where
 abbrev seen : State → Seen
 seen s = record { pc = s .machine .pc .0; acc = s .machine .acc; sr = s .machine .sr; cells = s .cells }
 
-abbrev loaded : State
-loaded = state freshlyLoaded (replicate 16 0)
+abbrev fresh-load : State
+fresh-load = state freshlyLoaded (replicate 16 0)
 
 -- after so many instructions' clocks, and after so many instructions
 abbrev clocked : ℕ → List ℕ → Seen
-clocked n image = seen (iterate (clock (memoryOf image)) (3 * n) loaded)
+clocked n image = seen (iterate (clock (memoryOf image)) (3 * n) fresh-load)
 
 abbrev instructed : ℕ → List ℕ → Seen
-instructed n image = seen (iterate (instruction (memoryOf image)) n loaded)
+instructed n image = seen (iterate (instruction (memoryOf image)) n fresh-load)
 
 -- both ways the same is seen
 abbrev Ends : ℕ → List ℕ → ℕ → ℕ → ℕ → List ℕ → Type 0
@@ -57,11 +57,16 @@ test-4 = 0x000 ∷ 0xB01 ∷ 0xA00 ∷ 0x807 ∷ 0x906 ∷ 0xF07 ∷ 0xC03 ∷ 0
 abbrev example : List ℕ
 example = 0xB03 ∷ 0x901 ∷ 0x704 ∷ 0x101 ∷ []
 
--- 003's "meaning" column: Acc, the cells and PC, which stays at the last GOTO
+-- Acc, the cells and PC, which stays at the last GOTO, are those of 003's "meaning" column, and the flags those that follow from it. The example is document
+-- 01's: "after 7 lines and 27 clocks with Acc 0, flags 8, PC 4".
 pub tests : Ends 6 test-1 5 1 0 (first (1 ∷ 0 ∷ 0 ∷ []))
     × Ends 10 test-2 9 0xFD 6 (first (0xFF ∷ 0 ∷ 0 ∷ []))
     × Ends 10 test-3 9 3 0 (first (1 ∷ 7 ∷ 6 ∷ []))
     × Ends 10 test-4 9 6 0 (first (0 ∷ 0 ∷ 0 ∷ []))
     × Ends 9 example 4 0 8 (first (0 ∷ 0 ∷ 0 ∷ []))
-unfolding clock instruction controlRow pcAfter irAfter drAfter operand resultOut flagsOut accAfter srAfter cellsAfter effect next undrawn instructionAt flag table unitResult unitFlags
+unfolding clock instruction controlRow pcAfter irAfter drAfter operand resultOut flagsOut accAfter srAfter cellsAfter effect next instructionAt flag table unitResult unitFlags
 tests = ((refl, refl), (refl, refl), (refl, refl), (refl, refl), (refl, refl))
+
+-- "PC steps by one, and 255 steps to 0"
+pub wraps : stepped (programAddress 255) ≡ programAddress 0
+wraps = refl

@@ -2,7 +2,7 @@
 -- Assumes nothing.
 use Prim.Native.Nat.{ℕ, suc, _<_, _≤_}
 use mathlib.Core.Bool.{Bool, true, false, true≢false, cond, not, _||_}
-use mathlib.Core.List.{List}
+use mathlib.Core.List.{List, [], _∷_, _++_}
 use mathlib.Core.Path.{_≡_, refl}
 use native.Mathlib.Nat.{suc-ne-zero}
 use native.Mathlib.Omega.{arith}
@@ -11,12 +11,13 @@ use lib.Dec.{eqb, ltb}
 use lib.ListN.{length}
 use Rattle.core.specs.Clock.{clockRefusal}
 use Rattle.core.specs.Instruction.{isFetch, instructionRefusal}
-use Rattle.core.specs.Machine.{State, state, anyAbove4095, clockedAs, Answers}
-use Rattle.core.specs.Refusal.{accepted, fetchNotNext}
+use Rattle.core.specs.Machine.{State, state, anyAbove4095, machineChecks, clockedAs, Answers}
+use Rattle.core.specs.Refusal.{accepted, fetchNotNext, Check, check, firstBroken}
 use Rattle.core.specs.declared.machine.Machine.{Machine}
+use Rattle.core.proofs.Finite.{All, _&_}
 use Rattle.core.proofs.Running.{Fit}
 
--- a rule that was not broken
+-- a rule that was not broken: its number is n + 1, and so not 0
 passed : (t : Bool) (n y : ℕ) → cond t (suc n) y ≡ 0 → (t ≡ false) × (y ≡ 0)
 passed true n y e = absurd (suc-ne-zero n e)
 passed false n y e = (refl, e)
@@ -49,29 +50,29 @@ ready machine image cells e =
       word = omega arith;
     }
 
-module _ (machine : Machine) (image : List ℕ) (cells : ℕ) where
+-- one check more, at the end, counts where those before it pass
+then-one : (d : Check) (x y z : ℕ) (b : Bool) → eqb (d .number) accepted ≡ false → x ≡ cond (eqb y accepted) z y
+    → cond b (d .number) x ≡ cond (eqb (cond b (d .number) y) accepted) z (cond b (d .number) y)
+then-one d x y z true n e = rw n
+then-one d x y z false n e = e
+
+last-tried : (cs : List Check) (c : Check) → All (λ (d : Check). eqb (d .number) accepted ≡ false) cs
+    → firstBroken (cs ++ c ∷ []) ≡ cond (eqb (firstBroken cs) accepted) (firstBroken (c ∷ [])) (firstBroken cs)
+last-tried [] c t = refl
+last-tried (d ∷ ds) c t =
+    then-one d (firstBroken (ds ++ c ∷ [])) (firstBroken ds) (firstBroken (c ∷ [])) (d .broken) (t .0) (last-tried ds c (t .1))
+
+module _ (machine : Machine) (image : List ℕ) (count : ℕ) where
   -- with FETCH next, an instruction refuses what a clock refuses
-  pub fetch-next : isFetch (machine .stage) ≡ true → instructionRefusal machine image cells ≡ clockRefusal machine image cells
+  pub fetch-next : isFetch (machine .stage) ≡ true → instructionRefusal machine image count ≡ clockRefusal machine image count
   unfolding instructionRefusal clockRefusal
   fetch-next e = rw e
 
-  -- 11, 10, 12 and 13, and then n
-  abbrev then : Bool → Bool → Bool → Bool → ℕ → ℕ
-  then t u v w n = cond t 11 (cond u 10 (cond v 12 (cond w 13 n)))
-
   -- else it refuses everything, and 33 is the last number tried
-  last-33 : (t u v w : Bool) → then t u v w 33 ≡ cond (eqb (then t u v w 0) 0) 33 (then t u v w 0)
-  last-33 true u v w = refl
-  last-33 false true v w = refl
-  last-33 false false true w = refl
-  last-33 false false false true = refl
-  last-33 false false false false = refl
-
   pub fetch-not-next : isFetch (machine .stage) ≡ false
-      → instructionRefusal machine image cells ≡ cond (eqb (clockRefusal machine image cells) accepted) fetchNotNext (clockRefusal machine image cells)
+      → instructionRefusal machine image count ≡ cond (eqb (clockRefusal machine image count) accepted) fetchNotNext (clockRefusal machine image count)
   unfolding instructionRefusal clockRefusal
-  fetch-not-next e =
-      rw e (last-33 (ltb 256 (length image)) (anyAbove4095 image) (not (eqb cells 16)) (ltb 15 (machine .sr) || ltb 4095 (machine .ir)))
+  fetch-not-next e = rw e (last-tried (machineChecks machine image count) (check true fetchNotNext) (refl & refl & refl & refl & tt))
 
 -- and that is never 0
 pub never-accepted : (n : ℕ) → eqb (cond (eqb n accepted) fetchNotNext n) accepted ≡ false

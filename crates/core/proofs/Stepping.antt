@@ -1,7 +1,7 @@
 -- Clocking a machine call by call is a run: no accepted call leaves a machine that the next call refuses, and a refused one leaves it as it was.
 -- Assumes nothing.
 use Prim.Native.Nat.{ℕ, zero, suc, _<_}
-use mathlib.Core.Bool.{Bool, true, false, not}
+use mathlib.Core.Bool.{Bool, true, false}
 use mathlib.Core.List.{List, [], _∷_}
 use mathlib.Core.Path.{_≡_, refl, ap}
 use native.Mathlib.Omega.{arith}
@@ -41,12 +41,12 @@ module _ (image : List ℕ) where
   still-accepted s r =
       record { short = r .short; words = r .words; fit = stays-fit (memoryOf image) s (r .fit); word = ir-lt s r }
 
-  pub accepted-after : (n : ℕ) (s : State) → Accepted s → Accepted (iterate (clock (memoryOf image)) n s)
+  accepted-after : (n : ℕ) (s : State) → Accepted s → Accepted (iterate (clock (memoryOf image)) n s)
   accepted-after zero s r = r
   accepted-after (suc n) s r = accepted-after n (clock (memoryOf image) s) (still-accepted s r)
 
   -- where a call may go on, nothing is refused
-  pub fine : (s : State) → Accepted s → clockRefusal (s .machine) image (length (s .cells)) ≡ accepted
+  fine : (s : State) → Accepted s → clockRefusal (s .machine) image (length (s .cells)) ≡ accepted
   unfolding clockRefusal
   fine s r =
       let f = r .fit .flags in

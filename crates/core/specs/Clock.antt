@@ -19,7 +19,7 @@ use Rattle.core.specs.declared.machine.Machine.{Machine}
 use Rattle.core.specs.declared.machine.Clocked.{Clocked}
 
 -- "EXECUTE writes what is enabled, all from values before the edge." What each register and the cells hold after the edge, from the row and the
--- machine before it:
+-- machine before it. A register is written by its own enable, and a cell by DMem.WE; that the device is then enabled too is the theorem `all-powered`.
 
 -- "MUX1 = 0 picks IR[7:0], 1 picks PC plus one."
 unfoldable pub pcAfter : ControlRow → Machine → ProgramAddress
@@ -51,16 +51,19 @@ resultOut row machine = unitResult (row .mode) (machine .acc) (operand row (mach
 unfoldable pub flagsOut : ControlRow → Machine → ℕ
 flagsOut row machine = unitFlags (row .mode) (machine .acc) (operand row (machine .ir) (machine .dr)) (machine .sr)
 
+-- Acc and SR take what the unit gives out
 unfoldable pub accAfter : ControlRow → Machine → ℕ
 accAfter row machine = cond (enabled accE row) (resultOut row machine) (machine .acc)
 
 unfoldable pub srAfter : ControlRow → Machine → ℕ
 srAfter row machine = cond (enabled srE row) (flagsOut row machine) (machine .sr)
 
+-- "d = 0 writes the same cell": the one that IR names
 unfoldable pub cellsAfter : ControlRow → Machine → List ℕ → List ℕ
 cellsAfter row machine cells =
     cond (enabled dmemWE row) (set cells (cellOf (machine .ir) .0) (resultOut row machine)) cells
 
+-- a state after an edge with this row
 abbrev pub edge : Memory → ControlRow → State → State
 edge memory row s =
     record {
@@ -79,8 +82,9 @@ edge memory row s =
 unfoldable pub clock : Memory → State → State
 clock memory s = edge memory (controlRow (s .machine .ir) (s .machine .stage) (s .machine .sr)) s
 
+-- the number of the first broken rule
 unfoldable pub clockRefusal : Machine → List ℕ → ℕ → ℕ
-clockRefusal machine image cells = firstBroken (machineChecks machine image cells)
+clockRefusal machine image count = firstBroken (machineChecks machine image count)
 
 -- "A run takes any unsigned 64-bit number of clocks and may start and end at any stage."
 abbrev pub RunPromise : ℕ → Machine → List ℕ → List ℕ → Clocked → List ℕ → Type 0
@@ -94,6 +98,6 @@ ClockPromise machine image cells =
     Answers (clockRefusal machine image (length cells)) (state machine cells)
     (clock (memoryOf image) (state machine cells))
 
--- The same of a machine that is lent: the number that is returned, the machine that is left in its place, and the cells.
+-- "The tester keeps one machine for each socket and clocks it where it stands." The same of a machine that is lent: the number that is returned, the machine that is left in its place, and the cells.
 abbrev pub ClockInPlacePromise : Machine → List ℕ → List ℕ → ℕ → Machine → List ℕ → Type 0
 ClockInPlacePromise machine image cells number left = ClockPromise machine image cells (clockedAs number left)

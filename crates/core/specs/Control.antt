@@ -14,7 +14,7 @@ use Rattle.core.specs.declared.control.Controlled.{Controlled}
 use Rattle.core.specs.declared.control.Stage.{Stage}
 use Rattle.core.specs.declared.control.Stage.the-variants.{Fetch, Decode, Execute}
 
--- The stages by number, and "The only stages are FETCH, DECODE, EXECUTE, in that order, then FETCH again."
+-- The stages by number, which is where the constant table has their rows (docs/DECISIONS.md, 17), and "The only stages are FETCH, DECODE, EXECUTE, in that order, then FETCH again."
 abbrev pub stageNumber : Stage → ℕ
 stageNumber Fetch = 0
 stageNumber Decode = 1
@@ -26,10 +26,10 @@ stageAfter Decode = Execute
 stageAfter Execute = Fetch
 
 -- "Columns: PC.E Acc.E SR.E IR.E DR.E PMem.E DMem.E DMem.WE ALU.E; Mode; MUX1; MUX2." The enables are one number of nine binary digits.
-abbrev pub row : ℕ → ℕ → ℕ → ℕ → ControlRow
-row enables mode mux1 mux2 = record { enables = enables; mode = mode; mux1 = mux1; mux2 = mux2 }
+abbrev pub rowWith : ℕ → ℕ → ℕ → ℕ → ControlRow
+rowWith enables mode mux1 mux2 = record { enables = enables; mode = mode; mux1 = mux1; mux2 = mux2 }
 
--- the bit of each enable
+-- the bits of the enables that a clock goes by
 abbrev pub pcE : ℕ
 pcE = 8
 
@@ -45,37 +45,28 @@ irE = 5
 abbrev pub drE : ℕ
 drE = 4
 
-abbrev pub pmemE : ℕ
-pmemE = 3
-
-abbrev pub dmemE : ℕ
-dmemE = 2
-
 abbrev pub dmemWE : ℕ
 dmemWE = 1
-
-abbrev pub aluE : ℕ
-aluE = 0
 
 abbrev pub enabled : ℕ → ControlRow → Bool
 enabled column r = isSet column (r .enables)
 
--- binary digits, left to right, after the number that those before them make
+-- the number that binary digits make, left to right: `before` is what those already read make
 abbrev pub digits : ℕ → List ℕ → ℕ
 digits before [] = before
 digits before (d ∷ ds) = digits (before * 2 + d) ds
 
 -- "in FETCH and DECODE mode and both selects are 0". "FETCH is 000101000 for all kinds"
 abbrev pub fetchRow : ControlRow
-fetchRow = row 0b000101000 0 0 0
+fetchRow = rowWith 0b000101000 0 0 0
 
 -- "DECODE is 000000000, but 000010100 for M."
 abbrev pub decodeRow : Act → ControlRow
-decodeRow Pass = row 0b000000000 0 0 0
-decodeRow (Go target) = row 0b000000000 0 0 0
-decodeRow (OnCell d mode cell) = row 0b000010100 0 0 0
-decodeRow (GoIf f target) = row 0b000000000 0 0 0
-decodeRow (OnImmediate mode immediate) = row 0b000000000 0 0 0
+decodeRow Pass = rowWith 0b000000000 0 0 0
+decodeRow (Go target) = rowWith 0b000000000 0 0 0
+decodeRow (OnCell d mode cell) = rowWith 0b000010100 0 0 0
+decodeRow (GoIf f target) = rowWith 0b000000000 0 0 0
+decodeRow (OnImmediate mode immediate) = rowWith 0b000000000 0 0 0
 
 -- "M: 1 d 1 0 0 0 e e 1, with e = 1-d". First correction: "003's table prints IR[8] for DMem.E and DMem.WE, where its instruction rules and
 -- Verilog give the inverse".
@@ -85,11 +76,11 @@ enablesOfM d = digits 0 (1 ∷ d ∷ 1 ∷ 0 ∷ 0 ∷ 0 ∷ (1 - d) ∷ (1 - d)
 -- "EXECUTE:", a row a kind. Second correction, MUX1 of a jump is "1 - SR bit f": "its Verilog takes MUX1.Sel for jumps uninverted, where its
 -- comment 1 inverts". "003's x entries are 0 here".
 abbrev pub executeRow : Act → ℕ → ControlRow
-executeRow Pass sr = row 0b100000000 0 1 0
-executeRow (Go target) sr = row 0b100000000 0 0 0
-executeRow (OnCell d mode cell) sr = row (enablesOfM d) mode 1 1
-executeRow (GoIf f target) sr = row 0b100000000 0 (1 - oneIf (flag f sr)) 0
-executeRow (OnImmediate mode immediate) sr = row 0b111000001 mode 1 0
+executeRow Pass sr = rowWith 0b100000000 0 1 0
+executeRow (Go target) sr = rowWith 0b100000000 0 0 0
+executeRow (OnCell d mode cell) sr = rowWith (enablesOfM d) mode 1 1
+executeRow (GoIf f target) sr = rowWith 0b100000000 0 (1 - oneIf (flag f sr)) 0
+executeRow (OnImmediate mode immediate) sr = rowWith 0b111000001 mode 1 0
 
 abbrev pub rowOf : Stage → Act → ℕ → ControlRow
 rowOf Fetch act sr = fetchRow
@@ -106,7 +97,7 @@ rowRefusal word sr = firstBroken (check (ltb 4095 word) wordAbove4095 ∷ check 
 
 -- "A refusal returns its number; .. other result fields are 0".
 abbrev pub controlledAs : ℕ → ControlRow → Controlled
-controlledAs number r = record { refusal = number; row = cond (eqb number accepted) r (row 0 0 0 0) }
+controlledAs number r = record { refusal = number; row = cond (eqb number accepted) r (rowWith 0 0 0 0) }
 
 -- the answer to a control row asked for
 unfoldable pub controlled : ℕ → Stage → ℕ → Controlled

@@ -31,7 +31,7 @@ abbrev pub carriedOut : Act → ℕ → State → State
 carriedOut act word s =
     record {
       machine = record {
-        pc = next act (s .machine .pc) (s .machine .sr);
+        pc = next act (s .machine);
         ir = word;
         dr = loaded act (s .machine .dr) (s .cells);
         acc = effect act (visible s) .acc;
@@ -41,14 +41,14 @@ carriedOut act word s =
       cells = effect act (visible s) .cells;
     }
 
--- one instruction of a machine about to fetch: the word at PC says what is done
+-- One instruction: the word at PC says what is done. "One instruction is three clocks of a machine about to fetch" is the theorem `three`.
 unfoldable pub instruction : Memory → State → State
 instruction memory s = carriedOut (actOf (instructionAt (memory (s .machine .pc)))) (memory (s .machine .pc)) s
 
 -- What the layers above take from the core: what running one instruction does to what is seen of a machine, to PC and to the stage.
 pub record Ran (act : Act) (before after : State) : Type 0 where
   pub sees : visible after ≡ effect act (visible before)
-  pub to : after .machine .pc ≡ next act (before .machine .pc) (before .machine .sr)
+  pub to : after .machine .pc ≡ next act (before .machine)
   pub ends : after .machine .stage ≡ Fetch
 
 abbrev pub isFetch : Stage → Bool
@@ -58,8 +58,8 @@ isFetch Execute = false
 
 -- "and for the instruction 33 last"
 unfoldable pub instructionRefusal : Machine → List ℕ → ℕ → ℕ
-instructionRefusal machine image cells =
-    firstBroken (machineChecks machine image cells ++ check (not (isFetch (machine .stage))) fetchNotNext ∷ [])
+instructionRefusal machine image count =
+    firstBroken (machineChecks machine image count ++ check (not (isFetch (machine .stage))) fetchNotNext ∷ [])
 
 -- what `instruction` promises of its answer and of the cells that it leaves
 abbrev pub InstructionPromise : Machine → List ℕ → List ℕ → Clocked → List ℕ → Type 0

@@ -2,7 +2,7 @@
 -- Assumes nothing.
 use Prim.Native.Nat.{ℕ}
 use mathlib.Core.Bool.{Bool, false, cond, not, _||_}
-use mathlib.Core.List.{List, [], _∷_}
+use mathlib.Core.List.{List, [], _∷_, _++_}
 use mathlib.Core.Path.{_≡_}
 use lib.Dec.{eqb, ltb}
 use lib.ListN.{getD, length}
@@ -21,7 +21,7 @@ pub record State : Type 0 where
 abbrev pub state : Machine → List ℕ → State
 state machine cells = record { machine = machine; cells = cells }
 
--- "A machine starts freshly loaded: PC, IR, DR, Acc and SR are 0 and FETCH is next."
+-- "A machine starts freshly loaded: PC, IR, DR, Acc and SR are 0 and FETCH is next. Data cells come from the caller".
 abbrev pub freshlyLoaded : Machine
 freshlyLoaded = record { pc = programAddress 0; ir = 0; dr = 0; acc = 0; sr = 0; stage = Fetch }
 
@@ -46,18 +46,24 @@ abbrev pub anyAbove4095 : List ℕ → Bool
 anyAbove4095 [] = false
 anyAbove4095 (word ∷ words) = ltb 4095 word || anyAbove4095 words
 
--- "Instruction, clock and run: 11, 10, 12, 13": the image, the number of cells, and "SR above 15 or IR above 4095"
-abbrev pub machineChecks : Machine → List ℕ → ℕ → List Check
-machineChecks machine image cells =
-    check (ltb 256 (length image)) imageAbove256Words ∷
-    check (anyAbove4095 image) wordAbove4095 ∷
-    check (not (eqb cells 16)) notSixteenCells ∷
+-- "Instruction, clock and run: 11, 10, 12, 13". Of the image: its length and its words;
+abbrev pub imageChecks : List ℕ → List Check
+imageChecks image = check (ltb 256 (length image)) imageAbove256Words ∷ check (anyAbove4095 image) wordAbove4095 ∷ []
+
+-- of the cells: their count; of the record: "SR above 15 or IR above 4095".
+abbrev pub stateChecks : Machine → ℕ → List Check
+stateChecks machine count =
+    check (not (eqb count 16)) notSixteenCells ∷
     check (ltb 15 (machine .sr) || ltb 4095 (machine .ir)) registerOutOfRange ∷ []
+
+abbrev pub machineChecks : Machine → List ℕ → ℕ → List Check
+machineChecks machine image count = imageChecks image ++ stateChecks machine count
 
 -- "A refusal returns its number; a register record handed in comes back the same, .. cells and output are unchanged."
 abbrev pub leaves : ℕ → State → State → State
 leaves number before after = cond (eqb number accepted) after before
 
+-- the answer with a number and a machine
 abbrev pub clockedAs : ℕ → Machine → Clocked
 clockedAs number machine = record { refusal = number; machine = machine }
 

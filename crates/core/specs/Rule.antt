@@ -9,6 +9,7 @@ use Rattle.core.specs.Unit.{plus, unitResult, unitFlags}
 use Rattle.core.specs.Word.{programAddress, flag}
 use Rattle.core.specs.declared.address.ProgramAddress.{ProgramAddress}
 use Rattle.core.specs.declared.address.DataAddress.{DataAddress}
+use Rattle.core.specs.declared.machine.Machine.{Machine}
 use Rattle.core.specs.declared.word.Instruction.{Instruction}
 use Rattle.core.specs.declared.word.Instruction.the-variants.{S, Goto, M, JumpIf, I}
 
@@ -28,7 +29,7 @@ actOf (M d mode cell) = OnCell d mode cell
 actOf (JumpIf f target) = GoIf f target
 actOf (I mode immediate) = OnImmediate mode immediate
 
--- what programs see: the accumulator, the flags and the cells
+-- what programs compute with: the accumulator, the flags and the cells. PC is apart, in `next`.
 pub record Visible : Type 0 where
   pub acc : ℕ
   pub sr : ℕ
@@ -63,10 +64,10 @@ effect (OnImmediate mode immediate) v = toAcc mode immediate v
 abbrev pub stepped : ProgramAddress → ProgramAddress
 stepped pc = programAddress (plus (pc .0) 1)
 
--- ".. unless a jump is taken": the address of the next instruction, from PC and SR before this one
-unfoldable pub next : Act → ProgramAddress → ℕ → ProgramAddress
-next Pass pc sr = stepped pc
-next (Go target) pc sr = target
-next (OnCell d mode cell) pc sr = stepped pc
-next (GoIf f target) pc sr = cond (flag f sr) target (stepped pc)
-next (OnImmediate mode immediate) pc sr = stepped pc
+-- ".. unless a jump is taken": the address of the next instruction, from the machine before this one
+unfoldable pub next : Act → Machine → ProgramAddress
+next Pass machine = stepped (machine .pc)
+next (Go target) machine = target
+next (OnCell d mode cell) machine = stepped (machine .pc)
+next (GoIf f target) machine = cond (flag f (machine .sr)) target (stepped (machine .pc))
+next (OnImmediate mode immediate) machine = stepped (machine .pc)

@@ -7,7 +7,7 @@ ghost use Rattle.core.specs.Instruction.{isFetch, InstructionPromise};
 ghost use Rattle.core.specs.Iterate.{iterate};
 ghost use Rattle.core.specs.Machine.{state, memoryOf};
 use super::control::Stage;
-use super::edge::edge;
+use super::edge::one_clock;
 use super::machine::Clocked;
 use super::machine::Machine;
 use super::machine::clock_refusal;
@@ -23,7 +23,7 @@ fn clocked(machine: Machine, image: &[u16], cells: &mut [u8], clocks: u64) -> Ma
     let mut at = machine;
     let mut made: u64 = 0;
     while made < clocks {
-        at = edge(at, image, cells);
+        at = one_clock(at, image, cells);
         made += 1;
     }
     at

@@ -1,11 +1,11 @@
 // The clock table: what each stage of each kind of word enables, and what the two selects pick.
 ghost use mathlib.Core.Path.{_≡_};
-ghost use Prim.Native.Nat.{_*_, _^_, _<_};
-ghost use Rattle.core.specs.Control.{stageNumber, row, controlRow, controlledAs, RowPromise};
+ghost use mathlib.Core.Bool.{cond};
+ghost use Prim.Native.Nat.{_*_, _/_, _%_, _^_, _<_};
+ghost use Rattle.core.specs.Control.{stageNumber, rowWith, controlRow, controlledAs, RowPromise};
 use super::refusal::ACCEPTED;
 use super::refusal::REGISTER_OUT_OF_RANGE;
 use super::refusal::WORD_ABOVE_4095;
-use super::unit::one_if;
 use super::word::Instruction;
 use super::word::bits;
 use super::word::instruction_at;
@@ -32,42 +32,41 @@ pub struct Controlled {
     pub row: ControlRow,
 }
 
-// The enables by their bits.
-pub const PC_E: u16 = 8;
+// The enables that a clock goes by, by their bits.
+pub(crate) const PC_E: u16 = 8;
 
-pub const ACC_E: u16 = 7;
+pub(crate) const ACC_E: u16 = 7;
 
-pub const SR_E: u16 = 6;
+pub(crate) const SR_E: u16 = 6;
 
-pub const IR_E: u16 = 5;
+pub(crate) const IR_E: u16 = 5;
 
-pub const DR_E: u16 = 4;
+pub(crate) const DR_E: u16 = 4;
 
-pub const PMEM_E: u16 = 3;
+pub(crate) const DMEM_WE: u16 = 1;
 
-pub const DMEM_E: u16 = 2;
+// The rows of document 01's clock table: nine enables, MUX1, MUX2.
+const FETCH: u16 = 0b000101000_0_0;
 
-pub const DMEM_WE: u16 = 1;
+const DECODE: u16 = 0b000000000_0_0;
 
-pub const ALU_E: u16 = 0;
+const DECODE_M: u16 = 0b000010100_0_0;
 
-const FETCH: u16 = 0b000101000;
+const EXECUTE_S: u16 = 0b100000000_1_0;
 
-const DECODE: u16 = 0b000000000;
+const EXECUTE_GOTO: u16 = 0b100000000_0_0;
 
-const DECODE_M: u16 = 0b000010100;
+// M with d = 0 and d = 1: DMem.E and DMem.WE are the INVERSE of d, against 003's table.
+const EXECUTE_M0: u16 = 0b101000111_1_1;
 
-// S, GOTO and jumps: PC alone
-const EXECUTE_PC: u16 = 0b100000000;
+const EXECUTE_M1: u16 = 0b111000001_1_1;
 
-// M with d = 0 and d = 1: DMem.E and DMem.WE are the inverse of d, against 003's table
-const EXECUTE_M0: u16 = 0b101000111;
+// A jump that is not taken; one that is taken has MUX1 0.
+const EXECUTE_JUMP: u16 = 0b100000000_1_0;
 
-const EXECUTE_M1: u16 = 0b111000001;
+const EXECUTE_I: u16 = 0b111000001_1_0;
 
-const EXECUTE_I: u16 = 0b111000001;
-
-// The rows of enables by stage and, in each stage, by bits 11..8 of the word.
+// The rows by stage and, in each stage, by bits 11..8 of the word.
 const CONTROL: [u16; 48] = [
     FETCH,
     FETCH,
@@ -101,14 +100,14 @@ const CONTROL: [u16; 48] = [
     DECODE,
     DECODE,
     DECODE,
-    EXECUTE_PC,
-    EXECUTE_PC,
+    EXECUTE_S,
+    EXECUTE_GOTO,
     EXECUTE_M0,
     EXECUTE_M1,
-    EXECUTE_PC,
-    EXECUTE_PC,
-    EXECUTE_PC,
-    EXECUTE_PC,
+    EXECUTE_JUMP,
+    EXECUTE_JUMP,
+    EXECUTE_JUMP,
+    EXECUTE_JUMP,
     EXECUTE_I,
     EXECUTE_I,
     EXECUTE_I,
@@ -129,56 +128,65 @@ fn stage_number(stage: Stage) -> usize
     }
 }
 
-// The enables go by stage and kind alone: they are those of the word that has bits 11..8 and zeros below.
-fn enables_at(stage: Stage, kind: u8) -> u16
-    requires { ⌜ kind < 16 ⌝ }
-    ensures { λ r. ⌜ r ≡ controlRow (kind * 2 ^ 8) stage 0 .enables ⌝ }
+// Enables and selects go by the stage and bits 11..8 alone, but for a jump that is taken: they are those of the word that has bits 11..8 and
+// zeros below, with no flag set.
+fn entry_at(stage: Stage, top: u8) -> u16
+    requires { ⌜ top < 16 ⌝ }
+    ensures { λ r. ⌜ (r / 4 ≡ controlRow (top * 2 ^ 8) stage 0 .enables) × (r / 2 % 2 ≡ controlRow (top * 2 ^ 8) stage 0 .mux1) × (r % 2 ≡ controlRow (top * 2 ^ 8) stage 0 .mux2) ⌝ }
 {
-    CONTROL[stage_number(stage) * 16 + kind as usize]
+    CONTROL[stage_number(stage) * 16 + top as usize]
 }
 
-fn control_row(enables: u16, mode: u8, mux1: u8, mux2: u8) -> ControlRow
-    ensures { λ r. ⌜ r ≡ row enables mode mux1 mux2 ⌝ }
+// MUX1 of an entry, but 0 for a jump that is taken.
+fn unless_taken(taken: bool, mux1: u8) -> u8
+    ensures { λ r. ⌜ r ≡ cond taken 0 mux1 ⌝ }
+{
+    if taken { 0 } else { mux1 }
+}
+
+// The row of an entry, with what it leaves open: the mode, and whether a jump is taken.
+fn row_with(entry: u16, mode: u8, taken: bool) -> ControlRow
+    ensures { λ r. ⌜ r ≡ rowWith (entry / 4) mode (cond taken 0 (entry / 2 % 2)) (entry % 2) ⌝ }
 {
     ControlRow {
-        enables,
+        enables: entry / 4,
         mode,
-        mux1,
-        mux2,
+        mux1: unless_taken(taken, (entry / 2 % 2) as u8),
+        mux2: (entry % 2) as u8,
     }
 }
 
-// The row of a word at a stage. Mode and selects are 0 but at EXECUTE; there MUX1 of a jump is the INVERSE of its flag.
-pub(crate) fn row_of(word: u16, stage: Stage, sr: u8) -> ControlRow
+// The row of a word at a stage. "mode" is a field of M and I; MUX1 of a jump is "1 - SR bit f", the INVERSE of its flag.
+pub(crate) fn control_row(word: u16, stage: Stage, sr: u8) -> ControlRow
     ensures { λ r. ⌜ r ≡ controlRow word stage sr ⌝ }
 {
-    let enables = enables_at(stage, bits(11, 8, word));
+    let entry = entry_at(stage, bits(11, 8, word));
     let instruction = instruction_at(word);
     match stage {
-        Stage::Fetch => control_row(enables, 0, 0, 0),
-        Stage::Decode => control_row(enables, 0, 0, 0),
+        Stage::Fetch => row_with(entry, 0, false),
+        Stage::Decode => row_with(entry, 0, false),
         Stage::Execute => match instruction {
-            Instruction::S { k: _ } => control_row(enables, 0, 1, 0),
-            Instruction::Goto { target: _ } => control_row(enables, 0, 0, 0),
+            Instruction::S { k: _ } => row_with(entry, 0, false),
+            Instruction::Goto { target: _ } => row_with(entry, 0, false),
             Instruction::M {
                 d: _,
                 mode,
                 cell: _,
-            } => control_row(enables, mode, 1, 1),
+            } => row_with(entry, mode, false),
             Instruction::JumpIf { flag, target: _ } => {
-                control_row(enables, 0, one_if(!is_set(flag as u16, sr as u16)), 0)
+                row_with(entry, 0, is_set(flag as u16, sr as u16))
             }
-            Instruction::I { mode, immediate: _ } => control_row(enables, mode, 1, 0),
+            Instruction::I { mode, immediate: _ } => row_with(entry, mode, false),
         },
     }
 }
 
 fn refused(refusal: u8) -> Controlled
-    ensures { λ r. ⌜ r ≡ controlledAs refusal (row 0 0 0 0) ⌝ }
+    ensures { λ r. ⌜ r ≡ controlledAs refusal (rowWith 0 0 0 0) ⌝ }
 {
     Controlled {
         refusal,
-        row: control_row(0, 0, 0, 0),
+        row: row_with(0, 0, false),
     }
 }
 
@@ -194,6 +202,6 @@ pub fn row(word: u16, stage: Stage, sr: u8) -> Controlled
     }
     Controlled {
         refusal: ACCEPTED,
-        row: row_of(word, stage, sr),
+        row: control_row(word, stage, sr),
     }
 }

@@ -17,7 +17,7 @@ use super::control::IR_E;
 use super::control::PC_E;
 use super::control::SR_E;
 use super::control::Stage;
-use super::control::row_of;
+use super::control::control_row;
 use super::image::word_at;
 use super::machine::Machine;
 use super::unit::unit;
@@ -43,7 +43,7 @@ fn enabled(column: u16, row: ControlRow) -> bool
     is_set(column, row.enables)
 }
 
-// What a register of eight bits holds after the edge.
+// What DR, Acc or SR holds after the edge.
 fn written(column: u16, row: ControlRow, new: u8, old: u8) -> u8
     requires { ⌜ column < 16 ⌝ }
     ensures { λ r. ⌜ r ≡ cond (enabled column row) new old ⌝ }
@@ -112,12 +112,12 @@ fn write_cell(row: ControlRow, machine: Machine, result: u8, cells: &mut [u8])
 }
 
 // One clock of a machine and its cells.
-pub(crate) fn edge(machine: Machine, image: &[u16], cells: &mut [u8]) -> Machine
+pub(crate) fn one_clock(machine: Machine, image: &[u16], cells: &mut [u8]) -> Machine
     requires { ⌜ (machine .sr < 16) × (length (now cells) ≡ 16) ⌝ }
     ensures { λ r. ⌜ state r (now (cells .exit)) ≡ clock (memoryOf (now (image .entry))) (state machine (now (cells .entry))) ⌝ }
 {
     let stage = machine.stage;
-    let row = row_of(machine.ir, stage, machine.sr);
+    let row = control_row(machine.ir, stage, machine.sr);
     let cell = read_cell(machine.ir, &*cells);
     let b = operand(row, machine.ir, machine.dr);
     let out = unit(row.mode, machine.acc, b, machine.sr);

@@ -8,7 +8,7 @@ use super::control::Stage;
 use super::image::any_above_4095;
 use super::refusal::ACCEPTED;
 use super::refusal::IMAGE_ABOVE_256_WORDS;
-use super::refusal::NOT_16_CELLS;
+use super::refusal::NOT_SIXTEEN_CELLS;
 use super::refusal::REGISTER_OUT_OF_RANGE;
 use super::refusal::WORD_ABOVE_4095;
 
@@ -50,13 +50,13 @@ pub(crate) fn refuse_if(broken: bool, number: u8, after: u8) -> u8
 }
 
 // "11, 10, 12, 13". The checks are worked out from the last to the first; the image is scanned once.
-pub(crate) fn clock_refusal(machine: Machine, image: &[u16], cells: usize) -> u8
-    ensures { λ r. ⌜ r ≡ clockRefusal machine (now (image .entry)) cells ⌝ }
+pub(crate) fn clock_refusal(machine: Machine, image: &[u16], count: usize) -> u8
+    ensures { λ r. ⌜ r ≡ clockRefusal machine (now (image .entry)) count ⌝ }
 {
     let registers = (15 < machine.sr) | (4095 < machine.ir);
     let words = any_above_4095(image);
     let from_13 = refuse_if(registers, REGISTER_OUT_OF_RANGE, ACCEPTED);
-    let from_12 = refuse_if(cells != 16, NOT_16_CELLS, from_13);
+    let from_12 = refuse_if(count != 16, NOT_SIXTEEN_CELLS, from_13);
     let from_10 = refuse_if(words, WORD_ABOVE_4095, from_12);
     refuse_if(256 < image.len(), IMAGE_ABOVE_256_WORDS, from_10)
 }

@@ -10,7 +10,7 @@ pub const WORD_ABOVE_4095: u8 = 10;
 pub const IMAGE_ABOVE_256_WORDS: u8 = 11;
 
 // "not exactly 16 cells"
-pub const NOT_16_CELLS: u8 = 12;
+pub const NOT_SIXTEEN_CELLS: u8 = 12;
 
 // "SR above 15 or IR above 4095"
 pub const REGISTER_OUT_OF_RANGE: u8 = 13;

@@ -140,7 +140,7 @@ fn row_at(mode: u8, a: u8, b: u8) -> UnitRow
     }
 }
 
-pub(crate) fn one_if(test: bool) -> u8
+fn one_if(test: bool) -> u8
     ensures { λ r. ⌜ (r ≡ oneIf test) × (r < 2) ⌝ }
 {
     test as u8

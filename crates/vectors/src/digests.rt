@@ -37,7 +37,7 @@ fn print_encoder() {
     print_digest(swept(after_jump, Sweep::I, 255));
 }
 
-fn print_digest(digest: u32) {
+pub(crate) fn print_digest(digest: u32) {
     print(b": ");
     print_hex(digest, 8);
     print(b"\n");

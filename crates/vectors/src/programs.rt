@@ -54,6 +54,9 @@ const TEST_4: [u16; 10] = [
 // The image of document 01's example deck.
 const EXAMPLE: [u16; 4] = [0xB03, 0x901, 0x704, 0x101];
 
+// A GOTO to the last entry, which is past the image: it reads as 000, and PC steps from 255 to 0.
+const LAST_ENTRY: [u16; 1] = [0x1FF];
+
 pub(crate) fn print_programs() {
     let test_1 = TEST_1;
     print_program(1, &test_1, 18);
@@ -71,6 +74,8 @@ pub(crate) fn print_traces() {
     print_trace(b"test 2", &test_2, 30);
     let example = EXAMPLE;
     print_trace(b"the example", &example, 27);
+    let last_entry = LAST_ENTRY;
+    print_trace(b"the last entry", &last_entry, 6);
 }
 
 fn print_program(number: u8, image: &[u16], clocks: u64) {

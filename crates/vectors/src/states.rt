@@ -1,11 +1,11 @@
 // Digests of rows over all words, stages and flags, and of clock, instruction and run over many states, whose cells go on from call to call.
 use super::calls::stage_at;
 use super::calls::stage_number;
+use super::digests::print_digest;
 use super::fold::START;
 use super::fold::fold;
 use super::fold::fold_controlled;
 use super::text::print;
-use super::text::print_hex;
 use core::address::ProgramAddress;
 use core::clock::clock;
 use core::clock::instruction;
@@ -22,15 +22,14 @@ enum Call {
 }
 
 pub(crate) fn print_state_digests() {
-    print(b"digest of row: ");
-    print_hex(rows(START), 8);
-    print(b"\ndigest of clock: ");
-    print_hex(called(Call::Clock), 8);
-    print(b"\ndigest of instruction: ");
-    print_hex(called(Call::Instruction), 8);
-    print(b"\ndigest of run: ");
-    print_hex(called(Call::Run), 8);
-    print(b"\n");
+    print(b"digest of row");
+    print_digest(rows(START));
+    print(b"digest of clock");
+    print_digest(called(Call::Clock));
+    print(b"digest of instruction");
+    print_digest(called(Call::Instruction));
+    print(b"digest of run");
+    print_digest(called(Call::Run));
 }
 
 fn rows(before: u32) -> u32 {
@@ -49,7 +48,7 @@ fn rows_at(before: u32, stage: u8, sr: u8) -> u32 {
     digest
 }
 
-// A number below 65521 for n and the salt, without an order that shows.
+// A number below 65521 for n and the salt: a square of a sum of theirs, so that the fields of one state, which differ in the salt, differ by no constant.
 fn mixed(n: u16, salt: u16) -> u32 {
     let a = ((n as u64) * 40503 + (salt as u64) * 9973 + 1) % 65521;
     ((a * a + (salt as u64)) % 65521) as u32

@@ -4,16 +4,7 @@ use super::text::print;
 use super::text::print_decimal;
 use super::text::print_hex;
 use core::clock::clock;
-use core::control::ACC_E;
-use core::control::ALU_E;
 use core::control::ControlRow;
-use core::control::DMEM_E;
-use core::control::DMEM_WE;
-use core::control::DR_E;
-use core::control::IR_E;
-use core::control::PC_E;
-use core::control::PMEM_E;
-use core::control::SR_E;
 use core::control::Stage;
 use core::control::row;
 use core::machine::Machine;
@@ -71,17 +62,17 @@ fn print_registers(machine: Machine) {
     print_hex(machine.sr as u32, 1);
 }
 
-// The nine enables as digits, the mode and the two selects.
+// The nine enables as digits, bit 8 first, the mode and the two selects.
 pub(crate) fn print_row(row: ControlRow, between: &[u8]) {
-    print_enable(PC_E, row);
-    print_enable(ACC_E, row);
-    print_enable(SR_E, row);
-    print_enable(IR_E, row);
-    print_enable(DR_E, row);
-    print_enable(PMEM_E, row);
-    print_enable(DMEM_E, row);
-    print_enable(DMEM_WE, row);
-    print_enable(ALU_E, row);
+    print_enable(8, row);
+    print_enable(7, row);
+    print_enable(6, row);
+    print_enable(5, row);
+    print_enable(4, row);
+    print_enable(3, row);
+    print_enable(2, row);
+    print_enable(1, row);
+    print_enable(0, row);
     print(between);
     print_hex(row.mode as u32, 1);
     print(between);
@@ -90,10 +81,10 @@ pub(crate) fn print_row(row: ControlRow, between: &[u8]) {
     print_decimal(row.mux2);
 }
 
-fn print_enable(column: u16, row: ControlRow)
-    requires { ⌜ column < 16 ⌝ }
+fn print_enable(bit: u16, row: ControlRow)
+    requires { ⌜ bit < 16 ⌝ }
 {
-    if row.enables >> column & 1 == 1 {
+    if row.enables >> bit & 1 == 1 {
         print(b"1");
     } else {
         print(b"0");

@@ -24,14 +24,14 @@ loop-holds c =
     let p = c .before .before .pre in
     (omega arith, record { flags = p .0; sixteen = p .1 }, refl)
 
-edge-requires : tie.Need-edge-requires Inv-loop μ-loop
-edge-requires c κs = let f = c .before .before .loop .inv .1 in (f .flags, f .sixteen)
+one-clock-requires : tie.Need-one-clock-requires Inv-loop μ-loop
+one-clock-requires c κs = let f = c .before .before .loop .inv .1 in (f .flags, f .sixteen)
 
 loop-again : tie.Need-loop-again Inv-loop μ-loop
 loop-again c =
     let l = c .before .before .before .before .before .loop in
     let memory = memoryOf (c .before .before .before .before .before .before .before .before .args .image .now) in
-    let e = c .before .before .edge .ensures in
+    let e = c .before .before .one-clock .ensures in
     (omega arith, rw e (stays-fit memory _ (l .inv .1)), e ∙ rw (add-one, iterate-last, l .inv .2))
 
 returns : tie.Need-returns Inv-loop μ-loop
@@ -50,7 +50,7 @@ clocked-spec =
     Inv-loop
     μ-loop
     loop-holds
-    edge-requires
+    one-clock-requires
     (λ c. omega arith)
     (λ c. omega arith)
     loop-again

@@ -17,7 +17,7 @@ returns-2 c = simp (le-ltb 4095 _ (c .before .before .if1 .left), lt-ltb 15 _ (c
 returns-3 : tie.Need-returns-3
 unfolding controlled
 returns-3 c =
-    simp (le-ltb 4095 _ (c .before .before .if1 .left), le-ltb 15 _ (c .before .if2 .left), c .row-of .ensures)
+    simp (le-ltb 4095 _ (c .before .before .if1 .left), le-ltb 15 _ (c .before .if2 .left), c .control-row .ensures)
 
 pub row-spec : {M : Type 1} → statement M
 row-spec =

@@ -1,4 +1,5 @@
--- `core::image::undrawn` meets its promise: the constant is the definition's. No other proof looks into `undrawn` for its value.
+-- `core::image::undrawn` meets its promise: the constant is the definition's. Besides this proof only `undrawn-lt` (Stepping) looks into `undrawn`, to see
+-- that it is a word.
 -- Assumes nothing.
 use mathlib.Core.Path.{refl}
 use Rattle.core.specs.Machine.{undrawn}
