@@ -2,7 +2,7 @@
 -- if the largest is, so that a running maximum settles the scan.
 -- Assumes nothing.
 use Prim.Native.Nat.{ℕ, zero, suc, _+_, _<_}
-use mathlib.Core.Bool.{Bool, true, false, cond, _||_, or-false}
+use mathlib.Core.Bool.{Bool, true, false, cond, _||_, or-false, or-assoc}
 use mathlib.Core.List.{List, [], _∷_}
 use mathlib.Core.Path.{_≡_, refl}
 use native.Mathlib.Nat.{not-suc-le-zero, le-of-suc-le-suc}
@@ -18,10 +18,6 @@ pub inside : (l : List ℕ) (i d e : ℕ) → i < length l → getD l i d ≡ ge
 inside [] i d e h = absurd (not-suc-le-zero h)
 inside (x ∷ l) zero d e h = refl
 inside (x ∷ l) (suc i) d e h = inside l i d e (le-of-suc-le-suc h)
-
-or-assoc : (t u v : Bool) → ((t || u) || v) ≡ (t || (u || v))
-or-assoc true u v = refl
-or-assoc false u v = refl
 
 -- the larger of two is above a bound exactly if one of them is
 larger-above : (bound a b : ℕ) → ltb bound (cond (ltb a b) b a) ≡ (ltb bound a || ltb bound b)
@@ -43,7 +39,8 @@ larger-above bound a b = go (ltb a b) (ltb bound a) refl refl
 pub scanned : (l : List ℕ) (i largest : ℕ) → i < length l
     → (ltb 4095 (cond (ltb largest (getD l i 0)) (getD l i 0) largest) || anyAbove4095 (drop (i + 1) l)) ≡ (ltb 4095 largest || anyAbove4095 (drop i l))
 scanned l i largest h =
-    rw (add-one, drop-cons l i 0 h, larger-above 4095 largest (getD l i 0)) (or-assoc (ltb 4095 largest) (ltb 4095 (getD l i 0)) (anyAbove4095 (drop (suc i) l)))
+    rw (add-one, drop-cons l i 0 h, larger-above 4095 largest (getD l i 0))
+    (or-assoc (ltb 4095 largest) (ltb 4095 (getD l i 0)) (anyAbove4095 (drop (suc i) l)))
 
 -- at its end the largest word tells
 pub ended : (l : List ℕ) (i largest : ℕ) → i ≡ length l → (ltb 4095 largest || anyAbove4095 (drop i l)) ≡ ltb 4095 largest

@@ -36,7 +36,8 @@ instructed n image = seen (iterate (instruction (memoryOf image)) n fresh-load)
 -- both ways the same is seen
 abbrev Ends : ℕ → List ℕ → ℕ → ℕ → ℕ → List ℕ → Type 0
 Ends n image pc acc sr cells =
-    (clocked n image ≡ record { pc = pc; acc = acc; sr = sr; cells = cells }) × (instructed n image ≡ record { pc = pc; acc = acc; sr = sr; cells = cells })
+    (clocked n image ≡ record { pc = pc; acc = acc; sr = sr; cells = cells })
+    × (instructed n image ≡ record { pc = pc; acc = acc; sr = sr; cells = cells })
 
 -- the cells that a program wrote, and 0 in the others
 abbrev first : List ℕ → List ℕ
@@ -64,7 +65,8 @@ pub tests : Ends 6 test-1 5 1 0 (first (1 ∷ 0 ∷ 0 ∷ []))
     × Ends 10 test-3 9 3 0 (first (1 ∷ 7 ∷ 6 ∷ []))
     × Ends 10 test-4 9 6 0 (first (0 ∷ 0 ∷ 0 ∷ []))
     × Ends 9 example 4 0 8 (first (0 ∷ 0 ∷ 0 ∷ []))
-unfolding clock instruction controlRow pcAfter irAfter drAfter operand resultOut flagsOut accAfter srAfter cellsAfter effect next instructionAt flag table unitResult unitFlags
+unfolding clock instruction controlRow
+    pcAfter irAfter drAfter operand resultOut flagsOut accAfter srAfter cellsAfter effect next instructionAt flag table unitResult unitFlags
 tests = ((refl, refl), (refl, refl), (refl, refl), (refl, refl), (refl, refl))
 
 -- "PC steps by one, and 255 steps to 0"

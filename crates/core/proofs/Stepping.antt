@@ -35,7 +35,9 @@ module _ (image : List ℕ) where
 
   ir-lt : (s : State) → Accepted s → clock (memoryOf image) s .machine .ir < 4096
   unfolding clock irAfter
-  ir-lt s r = either (λ (n : ℕ). n < 4096) (enabled irE (controlRow (s .machine .ir) (s .machine .stage) (s .machine .sr))) _ _ (entry-lt image (s .machine .pc .0) (r .words)) (r .word)
+  ir-lt s r =
+      let row = controlRow (s .machine .ir) (s .machine .stage) (s .machine .sr) in
+      either (λ (n : ℕ). n < 4096) (enabled irE row) _ _ (entry-lt image (s .machine .pc .0) (r .words)) (r .word)
 
   pub still-accepted : (s : State) → Accepted s → Accepted (clock (memoryOf image) s)
   still-accepted s r =
@@ -51,7 +53,9 @@ module _ (image : List ℕ) where
   fine s r =
       let f = r .fit .flags in
       let w = r .word in
-      simp (le-ltb 256 (length image) (r .short), r .words, eq-eqb (length (s .cells)) 16 (r .fit .sixteen), le-ltb 15 (s .machine .sr) (omega arith), le-ltb 4095 (s .machine .ir) (omega arith))
+      let sr = le-ltb 15 (s .machine .sr) (omega arith) in
+      let ir = le-ltb 4095 (s .machine .ir) (omega arith) in
+      simp (le-ltb 256 (length image) (r .short), r .words, eq-eqb (length (s .cells)) 16 (r .fit .sixteen), sr, ir)
 
   -- ONE CLOCK AFTER A RUN IS A RUN OF ONE MORE, refused or not
   pub one-more : (n : ℕ) (machine : Machine) (cells : List ℕ) (r s : Clocked) (left right : List ℕ)

@@ -15,6 +15,7 @@ use Rattle.core.specs.Iterate.{iterate}
 use Rattle.core.specs.Machine.{State, state, Memory}
 use Rattle.core.specs.Rule.{actOf, effect, stepped, next}
 use Rattle.core.specs.Word.{bits, flag, inRange, wordOf}
+use Rattle.core.specs.declared.control.Stage.{Stage}
 use Rattle.core.specs.declared.control.Stage.the-variants.{Fetch}
 use Rattle.core.specs.declared.machine.Machine.{Machine}
 use Rattle.core.specs.declared.word.Instruction.{Instruction}
@@ -22,9 +23,12 @@ use Rattle.core.proofs.Kind.{Kind, is-S, is-Goto, is-M, is-JumpIf, is-I
 use Rattle.core.proofs.Range.{fields-fit}
 use Rattle.core.proofs.RoundTrip.{cut-again}
 
--- the machine with FETCH next, whatever was next
+-- the machine with this stage next, whatever was next
+abbrev pub at-stage : Stage → Machine → Machine
+at-stage stage m = record { pc = m .pc; ir = m .ir; dr = m .dr; acc = m .acc; sr = m .sr; stage = stage }
+
 abbrev about-to-fetch : Machine → Machine
-about-to-fetch m = record { pc = m .pc; ir = m .ir; dr = m .dr; acc = m .acc; sr = m .sr; stage = Fetch }
+about-to-fetch m = at-stage Fetch m
 
 three-at : (memory : Memory) (m : Machine) (cells : List ℕ)
     → iterate (clock memory) 3 (state (about-to-fetch m) cells) ≡ instruction memory (state (about-to-fetch m) cells)
@@ -60,7 +64,7 @@ pub three : (memory : Memory) (s : State) → s .machine .stage ≡ Fetch → it
 three memory s f = rw s-is (three-at memory (s .machine) (s .cells))
   where
     s-is : s ≡ state (about-to-fetch (s .machine)) (s .cells)
-    s-is = λ i. state (record { pc = s .machine .pc; ir = s .machine .ir; dr = s .machine .dr; acc = s .machine .acc; sr = s .machine .sr; stage = f i }) (s .cells)
+    s-is = λ i. state (at-stage (f i) (s .machine)) (s .cells)
 
 -- the word of an instruction in range, three clocks after it stood at PC of a machine about to fetch
 pub ran : (memory : Memory) (i : Instruction) (s : State) → inRange i ≡ true → s .machine .stage ≡ Fetch → memory (s .machine .pc) ≡ wordOf i

@@ -19,10 +19,7 @@ use Rattle.core.specs.declared.control.Stage.{Stage}
 use Rattle.core.specs.declared.control.Stage.the-variants.{Fetch, Decode, Execute}
 use Rattle.core.specs.declared.machine.Clocked.{Clocked}
 use Rattle.core.specs.declared.machine.Machine.{Machine}
-
--- the machine after the work that was done, with the stage that comes next
-abbrev then : Stage → Machine → Machine
-then stage m = record { pc = m .pc; ir = m .ir; dr = m .dr; acc = m .acc; sr = m .sr; stage = stageAfter stage }
+use Rattle.core.proofs.ThreeClocks.{at-stage}
 
 abbrev worked : Stage → Memory → State → State
 worked Fetch memory s = instruction memory s
@@ -33,7 +30,7 @@ worked Execute memory s = s
 abbrev whole-at-fetch : Memory → State → State
 whole-at-fetch memory s =
     let after = worked (s .machine .stage) memory s in
-    state (then (s .machine .stage) (after .machine)) (after .cells)
+    state (at-stage (stageAfter (s .machine .stage)) (after .machine)) (after .cells)
 
 pub three-agree : (memory : Memory) (m : Machine) (cells : List ℕ) → m .stage ≡ Fetch
     → iterate (whole-at-fetch memory) 3 (state m cells) ≡ instruction memory (state m cells)
@@ -51,5 +48,6 @@ wrong = whole-at-fetch (memoryOf image) (state freshlyLoaded cells)
 
 -- THE PROMISE IS FALSE OF IT
 pub refused : ClockPromise freshlyLoaded image cells (clockedAs accepted (wrong .machine)) (wrong .cells) → ⊥
-unfolding clock clockRefusal instruction controlRow pcAfter irAfter drAfter operand resultOut flagsOut accAfter srAfter cellsAfter effect next instructionAt table unitResult unitFlags
+unfolding clock clockRefusal instruction controlRow
+    pcAfter irAfter drAfter operand resultOut flagsOut accAfter srAfter cellsAfter effect next instructionAt table unitResult unitFlags
 refused p = let e : _≡_ {A = ℕ} 1 0 = ap (λ (r : Clocked). r .machine .acc) (p .0) in absurd (omega arith)

@@ -98,6 +98,7 @@ ClockPromise machine image cells =
     Answers (clockRefusal machine image (length cells)) (state machine cells)
     (clock (memoryOf image) (state machine cells))
 
--- "The tester keeps one machine for each socket and clocks it where it stands." The same of a machine that is lent: the number that is returned, the machine that is left in its place, and the cells.
+-- "The tester keeps one machine for each socket and clocks it where it stands." The same of a machine that is lent: the number that is returned, the
+-- machine that is left in its place, and the cells.
 abbrev pub ClockInPlacePromise : Machine → List ℕ → List ℕ → ℕ → Machine → List ℕ → Type 0
 ClockInPlacePromise machine image cells number left = ClockPromise machine image cells (clockedAs number left)

@@ -14,7 +14,8 @@ use Rattle.core.specs.declared.control.Controlled.{Controlled}
 use Rattle.core.specs.declared.control.Stage.{Stage}
 use Rattle.core.specs.declared.control.Stage.the-variants.{Fetch, Decode, Execute}
 
--- The stages by number, which is where the constant table has their rows (docs/DECISIONS.md, 17), and "The only stages are FETCH, DECODE, EXECUTE, in that order, then FETCH again."
+-- The stages by number, which is where the constant table has their rows (docs/DECISIONS.md, 17), and "The only stages are FETCH, DECODE, EXECUTE, in that
+-- order, then FETCH again."
 abbrev pub stageNumber : Stage → ℕ
 stageNumber Fetch = 0
 stageNumber Decode = 1

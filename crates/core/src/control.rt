@@ -132,7 +132,9 @@ fn stage_number(stage: Stage) -> usize
 // zeros below, with no flag set.
 fn entry_at(stage: Stage, top: u8) -> u16
     requires { ⌜ top < 16 ⌝ }
-    ensures { λ r. ⌜ (r / 4 ≡ controlRow (top * 2 ^ 8) stage 0 .enables) × (r / 2 % 2 ≡ controlRow (top * 2 ^ 8) stage 0 .mux1) × (r % 2 ≡ controlRow (top * 2 ^ 8) stage 0 .mux2) ⌝ }
+    ensures { λ r. ⌜ (r / 4 ≡ controlRow (top * 2 ^ 8) stage 0 .enables)
+        × (r / 2 % 2 ≡ controlRow (top * 2 ^ 8) stage 0 .mux1)
+        × (r % 2 ≡ controlRow (top * 2 ^ 8) stage 0 .mux2) ⌝ }
 {
     CONTROL[stage_number(stage) * 16 + top as usize]
 }

@@ -25,8 +25,9 @@ returns : tie.Need-returns
 returns c =
     let x = c .before .before .before .before .before .before .before .before .args in
     let e = sym (c .before .before .before .before .before .is-fetch .ensures) ∙ c .before .before .before .before .if1 .taken in
-    rw (fetch-next (x .machine) (now (x .image)) (length (now (x .cells))) e, sym (three (memoryOf (now (x .image))) (state (x .machine) (now (x .cells))) (is-next (x .machine .stage) e)))
-    (c .before .before .run .ensures)
+    let before = state (x .machine) (now (x .cells)) in
+    let t = three (memoryOf (now (x .image))) before (is-next (x .machine .stage) e) in
+    rw (fetch-next (x .machine) (now (x .image)) (length (now (x .cells))) e, sym t) (c .before .before .run .ensures)
 
 returns-2 : tie.Need-returns-2
 returns-2 c =

@@ -23,8 +23,9 @@ clocked-requires c κs =
 returns-2 : tie.Need-returns-2
 returns-2 c =
     let x = c .before .before .before .before .before .before .before .before .args in
-    let e : clockRefusal (x .machine) (now (x .image)) (length (now (x .cells))) ≡ 0 = sym (c .before .before .before .before .before .clock-refusal .ensures) ∙ c .before .before .before .before .if1 .left in
-    rw (e, c .before .before .before .before .if1 .left, sym (c .before .before .clocked .ensures)) (refl, refl)
+    let passed = c .before .before .before .before .if1 .left in
+    let e : clockRefusal (x .machine) (now (x .image)) (length (now (x .cells))) ≡ 0 = sym (c .before .before .before .before .before .clock-refusal .ensures) ∙ passed in
+    rw (e, passed, sym (c .before .before .clocked .ensures)) (refl, refl)
 
 pub run-spec : {M : Type 1} → statement M
 run-spec = tie.close (tie.spec (λ c κs. search needs) returns clocked-requires (λ c. search needs) returns-2)

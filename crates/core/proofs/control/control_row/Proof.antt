@@ -36,7 +36,8 @@ returns-3 c =
     let entry = c .before .before .before .before .before .before in
     let x = entry .before .before .args in
     let m = made (x .word) (x .stage) _ _ 0 false _ (c .row-with3 .ensures) (entry .before .bits .ensures) (entry .entry-at .ensures) in
-    rw (m, c .before .before .before .enum-told3 .given .1, sym (c .before .before .before .before .before .instruction-at .ensures), c .before .enum-told4 .given .1)
+    let stage = c .before .before .before in
+    rw (m, stage .enum-told3 .given .1, sym (stage .before .before .instruction-at .ensures), c .before .enum-told4 .given .1)
 
 returns-4 : tie.Need-returns-4
 unfolding controlRow
@@ -44,34 +45,42 @@ returns-4 c =
     let entry = c .before .before .before .before .before .before in
     let x = entry .before .before .args in
     let m = made (x .word) (x .stage) _ _ 0 false _ (c .row-with4 .ensures) (entry .before .bits .ensures) (entry .entry-at .ensures) in
-    rw (m, c .before .before .before .enum-told3 .given .1, sym (c .before .before .before .before .before .instruction-at .ensures), c .before .enum-told5 .given .1)
+    let stage = c .before .before .before in
+    rw (m, stage .enum-told3 .given .1, sym (stage .before .before .instruction-at .ensures), c .before .enum-told5 .given .1)
 
 returns-5 : tie.Need-returns-5
 unfolding controlRow
 returns-5 c =
     let entry = c .before .before .before .before .before .before .before in
     let x = entry .before .before .args in
-    let m = made (x .word) (x .stage) _ _ (c .before .before .instruction .given .0 .1 .0) false _ (c .row-with5 .ensures) (entry .before .bits .ensures) (entry .entry-at .ensures) in
-    rw (m, c .before .before .before .before .enum-told3 .given .1, sym (c .before .before .before .before .before .before .instruction-at .ensures), c .before .before .instruction .given .1)
+    let stage = c .before .before .before .before in
+    let told = c .before .before .instruction in
+    let m = made (x .word) (x .stage) _ _ (told .given .0 .1 .0) false _ (c .row-with5 .ensures) (entry .before .bits .ensures) (entry .entry-at .ensures) in
+    rw (m, stage .enum-told3 .given .1, sym (stage .before .before .instruction-at .ensures), told .given .1)
 
 returns-6 : tie.Need-returns-6
 unfolding controlRow
 returns-6 c =
     let entry = c .before .before .before .before .before .before .before .before in
     let x = entry .before .before .args in
-    let f = c .before .before .before .instruction2 .given .0 .0 in
-    let h = cut-fits-as _ _ (sym (c .before .before .before .before .before .before .before .instruction-at .ensures) ∙ c .before .before .before .instruction2 .given .1) .0 in
-    let m = made (x .word) (x .stage) _ _ 0 (isSet f (x .sr)) _ (rw (c .before .is-set .ensures) at (c .row-with6 .ensures)) (entry .before .bits .ensures) (entry .entry-at .ensures) in
-    rw (m, c .before .before .before .before .before .enum-told3 .given .1, sym (c .before .before .before .before .before .before .before .instruction-at .ensures), c .before .before .before .instruction2 .given .1)
-    (ap (λ (n : ℕ). rowWith 0b100000000 0 n 0) (inverted f (x .sr) h))
+    let stage = c .before .before .before .before .before in
+    let told = c .before .before .before .instruction2 in
+    let word = sym (stage .before .before .instruction-at .ensures) in
+    let f = told .given .0 .0 in
+    let taken = rw (c .before .is-set .ensures) at (c .row-with6 .ensures) in
+    let m = made (x .word) (x .stage) _ _ 0 (isSet f (x .sr)) _ taken (entry .before .bits .ensures) (entry .entry-at .ensures) in
+    rw (m, stage .enum-told3 .given .1, word, told .given .1)
+    (ap (λ (n : ℕ). rowWith 0b100000000 0 n 0) (inverted f (x .sr) (cut-fits-as _ _ (word ∙ told .given .1) .0)))
 
 returns-7 : tie.Need-returns-7
 unfolding controlRow
 returns-7 c =
     let entry = c .before .before .before .before .before .before .before in
     let x = entry .before .before .args in
-    let m = made (x .word) (x .stage) _ _ (c .before .before .instruction3 .given .0 .0) false _ (c .row-with7 .ensures) (entry .before .bits .ensures) (entry .entry-at .ensures) in
-    rw (m, c .before .before .before .before .enum-told3 .given .1, sym (c .before .before .before .before .before .before .instruction-at .ensures), c .before .before .instruction3 .given .1)
+    let stage = c .before .before .before .before in
+    let told = c .before .before .instruction3 in
+    let m = made (x .word) (x .stage) _ _ (told .given .0 .0) false _ (c .row-with7 .ensures) (entry .before .bits .ensures) (entry .entry-at .ensures) in
+    rw (m, stage .enum-told3 .given .1, sym (stage .before .before .instruction-at .ensures), told .given .1)
 
 is-set-requires : tie.Need-is-set-requires
 is-set-requires c κs =

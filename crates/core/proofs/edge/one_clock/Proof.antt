@@ -25,8 +25,18 @@ returns c =
     let unit = c .before .before .before .before .before .before .before .before .before .before in
     let control = c .before .before .before .before .before .before .before .before .before .before .before .before .before .before in
     let u = unit-out (start .args .machine) _ _ _ (start .pre .0) (control .control-row .ensures) (unit .before .operand .ensures) (unit .unit .ensures) in
-    simp
-    (c .before .before .write-cell .ensures, registers .stage-after .ensures, registers .before .written3 .ensures, registers .before .before .written2 .ensures, registers .before .before .before .written .ensures, memories .ir-after .ensures, memories .before .pc-after .ensures, u, unit .before .before .read-cell .ensures, control .control-row .ensures)
+    simp (
+      c .before .before .write-cell .ensures,
+      registers .stage-after .ensures,
+      registers .before .written3 .ensures,
+      registers .before .before .written2 .ensures,
+      registers .before .before .before .written .ensures,
+      memories .ir-after .ensures,
+      memories .before .pc-after .ensures,
+      u,
+      unit .before .before .read-cell .ensures,
+      control .control-row .ensures,
+    )
 
 pub one-clock-spec : {M : Type 1} → statement M
 one-clock-spec =

@@ -8,8 +8,13 @@ use Rattle.core.proofs.machine.clock_refusal.Tie as tie
 returns : tie.Need-returns
 unfolding clockRefusal
 returns c =
-    let words = c .before .before .before .before in
-    simp (c .refuse-if4 .ensures, c .before .refuse-if3 .ensures, c .before .before .refuse-if2 .ensures, c .before .before .before .refuse-if .ensures, words .any-above-4095 .ensures)
+    simp (
+      c .refuse-if4 .ensures,
+      c .before .refuse-if3 .ensures,
+      c .before .before .refuse-if2 .ensures,
+      c .before .before .before .refuse-if .ensures,
+      c .before .before .before .before .any-above-4095 .ensures,
+    )
 
 pub clock-refusal-spec : {M : Type 1} → statement M
 clock-refusal-spec =
