@@ -8,7 +8,7 @@ use native.Mathlib.Omega.{arith}
 use Rattle.core.specs.Clock.{ClockPromise, ClockInPlacePromise, RunPromise}
 use Rattle.core.specs.Control.{RowPromise}
 use Rattle.core.specs.Instruction.{InstructionPromise}
-use Rattle.core.specs.Machine.{FreshPromise}
+use Rattle.core.specs.Machine.{State, FreshPromise, clockedAs, Answers}
 use Rattle.core.specs.Unit.{UnitPromise}
 use Rattle.core.specs.Word.{NumberAndValues, numberAndValues, DecodePromise, EncodePromise}
 use Rattle.core.specs.declared.control.Controlled.{Controlled}
@@ -45,23 +45,27 @@ row-determined word stage sr r s p q = p ∙ sym q
 pub fresh-determined : (r s : Machine) → FreshPromise r → FreshPromise s → r ≡ s
 fresh-determined r s p q = p ∙ sym q
 
--- an answer and the cells that are left
+-- a call over a machine: its answer, and the cells that are left
+same-call : (number : ℕ) (before after : State) (r s : Clocked) (left right : List ℕ)
+    → Answers number before after r left → Answers number before after s right → (r ≡ s) × (left ≡ right)
+same-call number before after r s left right p q = (p .0 ∙ sym (q .0), p .1 ∙ sym (q .1))
+
 module _ (machine : Machine) (image cells : List ℕ) (r s : Clocked) (left right : List ℕ) where
   pub run-determined : (clocks : ℕ) → RunPromise clocks machine image cells r left → RunPromise clocks machine image cells s right
       → (r ≡ s) × (left ≡ right)
-  run-determined clocks p q = (p .0 ∙ sym (q .0), p .1 ∙ sym (q .1))
+  run-determined clocks p q = same-call _ _ _ r s left right p q
 
   pub clock-determined : ClockPromise machine image cells r left → ClockPromise machine image cells s right → (r ≡ s) × (left ≡ right)
-  clock-determined p q = (p .0 ∙ sym (q .0), p .1 ∙ sym (q .1))
+  clock-determined p q = same-call _ _ _ r s left right p q
 
   pub instruction-determined : InstructionPromise machine image cells r left → InstructionPromise machine image cells s right
       → (r ≡ s) × (left ≡ right)
-  instruction-determined p q = (p .0 ∙ sym (q .0), p .1 ∙ sym (q .1))
+  instruction-determined p q = same-call _ _ _ r s left right p q
 
 -- of a machine that is lent: the number that is returned, the machine that is left in its place, and the cells
 pub clock-in-place-determined : (machine : Machine) (image cells : List ℕ) (m n : ℕ) (left right : Machine) (after over : List ℕ)
     → ClockInPlacePromise machine image cells m left after → ClockInPlacePromise machine image cells n right over
     → (m ≡ n) × (left ≡ right) × (after ≡ over)
 clock-in-place-determined machine image cells m n left right after over p q =
-    let e = p .0 ∙ sym (q .0) in
-    (ap (λ (r : Clocked). r .refusal) e, ap (λ (r : Clocked). r .machine) e, p .1 ∙ sym (q .1))
+    let e = same-call _ _ _ (clockedAs m left) (clockedAs n right) after over p q in
+    (ap (λ (r : Clocked). r .refusal) (e .0), ap (λ (r : Clocked). r .machine) (e .0), e .1)
