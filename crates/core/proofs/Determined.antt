@@ -2,6 +2,7 @@
 -- and the final content of what is lent.
 -- Assumes nothing.
 use Prim.Native.Nat.{ℕ}
+use mathlib.Core.Bool.{Bool}
 use mathlib.Core.List.{List}
 use mathlib.Core.Path.{_≡_, _∙_, ap, sym}
 use native.Mathlib.Omega.{arith}
@@ -10,7 +11,7 @@ use Rattle.core.specs.Control.{RowPromise}
 use Rattle.core.specs.Instruction.{InstructionPromise}
 use Rattle.core.specs.Machine.{State, FreshPromise, clockedAs, Answers}
 use Rattle.core.specs.Unit.{UnitPromise}
-use Rattle.core.specs.Word.{NumberAndValues, numberAndValues, DecodePromise, EncodePromise}
+use Rattle.core.specs.Word.{NumberAndValues, numberAndValues, FlagPromise, DecodePromise, EncodePromise}
 use Rattle.core.specs.declared.control.Controlled.{Controlled}
 use Rattle.core.specs.declared.control.Stage.{Stage}
 use Rattle.core.specs.declared.machine.Clocked.{Clocked}
@@ -22,7 +23,7 @@ use Rattle.core.specs.declared.word.Instruction.{Instruction}
 
 -- number and values tell the answers of the decoder apart
 same : (r s : Decoded) → numberAndValues r ≡ numberAndValues s → r ≡ s
-same r s e = go r s (ap (λ (a : NumberAndValues). a .number) e) (ap (λ (a : NumberAndValues). a .values) e)
+same r s e = go r s (ap (λ (a : NumberAndValues Instruction). a .number) e) (ap (λ (a : NumberAndValues Instruction). a .values) e)
   where
     go : (r s : Decoded) → numberAndValues r .number ≡ numberAndValues s .number → numberAndValues r .values ≡ numberAndValues s .values → r ≡ s
     go (Decoded.Accepted i) (Decoded.Accepted j) e f = cc
@@ -35,6 +36,9 @@ decode-determined word r s p q = same r s (p ∙ sym q)
 
 pub encode-determined : (i : Instruction) (r s : Encoded) → EncodePromise i r → EncodePromise i s → r ≡ s
 encode-determined i r s p q = p ∙ sym q
+
+pub flag-determined : (f sr : ℕ) (r s : Bool) → FlagPromise f sr r → FlagPromise f sr s → r ≡ s
+flag-determined f sr r s p q = p ∙ sym q
 
 pub unit-determined : (mode a b sr : ℕ) (r s : Computed) → UnitPromise mode a b sr r → UnitPromise mode a b sr s → r ≡ s
 unit-determined mode a b sr r s p q = p ∙ sym q

@@ -2,11 +2,14 @@ pub mod Choice
 pub mod ClockTable
 pub mod Determined
 pub mod Difference
+pub mod Effects
 pub mod Entries
 pub mod Field
 pub mod Finite
 pub mod Flags
+pub mod Iteration
 pub mod Kind
+pub mod Order
 pub mod Overflow
 pub mod Programs
 pub mod Range

@@ -4,7 +4,7 @@ use Prim.Native.Nat.{ℕ, _^_, _<_}
 use mathlib.Core.Bool.{Bool, true, false, _&&_}
 use mathlib.Core.Path.{_≡_, refl}
 use native.Mathlib.Omega.{arith}
-use borrow.Author.Tests.{ltb-true}
+use borrow.Author.Tests.{ltb-true, lt-ltb}
 use Rattle.core.specs.Word.{fits, inRange, instructionAt}
 use Rattle.core.specs.declared.word.Instruction.{Instruction}
 use Rattle.core.specs.declared.word.Instruction.the-variants.{S, Goto, M, JumpIf, I}
@@ -37,6 +37,15 @@ fields-fit (M d mode cell) e =
     (g .0, g .1, fitting 4 (cell .0) (h .1))
 fields-fit (JumpIf f target) e = two 2 8 f (target .0) e
 fields-fit (I mode immediate) e = two 3 8 mode immediate e
+
+-- and back: fields that fit pass the test
+pub in-range : (i : Instruction) → FieldsFit i → inRange i ≡ true
+unfolding inRange
+in-range (S k) h = rw (lt-ltb k _ h)
+in-range (Goto target) h = rw (lt-ltb (target .0) _ h)
+in-range (M d mode cell) h = rw (lt-ltb d _ (h .0), lt-ltb mode _ (h .1), lt-ltb (cell .0) _ (h .2))
+in-range (JumpIf f target) h = rw (lt-ltb f _ (h .0), lt-ltb (target .0) _ (h .1))
+in-range (I mode immediate) h = rw (lt-ltb mode _ (h .0), lt-ltb immediate _ (h .1))
 
 -- the same, where the instruction is known by its kind
 pub fields-fit-as : (i j : Instruction) → i ≡ j → inRange i ≡ true → FieldsFit j

@@ -1,6 +1,6 @@
 -- A clock keeps what the next clock goes by: SR stays below 16, since flags are four bits, and the cells stay sixteen. So a run checks once.
 -- Assumes nothing.
-use Prim.Native.Nat.{ℕ, zero, suc, _<_}
+use Prim.Native.Nat.{ℕ, _<_}
 use mathlib.Core.Bool.{Bool, true, false}
 use mathlib.Core.List.{List}
 use mathlib.Core.Path.{_≡_, refl, _∙_}
@@ -9,18 +9,12 @@ use lib.Dec.{lit<}
 use lib.ListN.{length, length-set}
 use Rattle.core.specs.Clock.{resultOut, flagsOut, srAfter, cellsAfter, cellOf, clock}
 use Rattle.core.specs.Control.{enabled, srE, dmemWE}
-use Rattle.core.specs.Iterate.{iterate}
 use Rattle.core.specs.Machine.{State, Memory}
 use Rattle.core.specs.Unit.{oneIf, packed, kept, merged, rowAt, rowFlags, unitFlags}
 use Rattle.core.specs.Word.{flagZ, flagC, flagS, flagO}
 use Rattle.core.specs.declared.control.ControlRow.{ControlRow}
 use Rattle.core.specs.declared.machine.Machine.{Machine}
 use Rattle.core.proofs.Choice.{either}
-
--- one step more, at the end: what the invariant of a loop wants
-pub iterate-last : {A : Type 0} (step : A → A) (n : ℕ) (x : A) → iterate step (suc n) x ≡ step (iterate step n x)
-iterate-last step zero x = refl
-iterate-last step (suc n) x = iterate-last step n (step x)
 
 one-lt : (t : Bool) → oneIf t < 2
 one-lt true = lit< tt
@@ -39,7 +33,7 @@ merged-lt : (sets given before : ℕ) → merged sets given before < 16
 merged-lt sets given before =
     packed-lt (kept sets given before flagZ) (kept sets given before flagC) (kept sets given before flagS) (kept sets given before flagO)
 
-flags-lt : (mode a b sr : ℕ) → unitFlags mode a b sr < 16
+pub flags-lt : (mode a b sr : ℕ) → unitFlags mode a b sr < 16
 unfolding unitFlags
 flags-lt mode a b sr = merged-lt (rowAt mode a b .sets) (rowFlags (rowAt mode a b)) sr
 

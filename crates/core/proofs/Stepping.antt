@@ -17,7 +17,8 @@ use Rattle.core.specs.declared.machine.Clocked.{Clocked}
 use Rattle.core.specs.declared.machine.Machine.{Machine}
 use Rattle.core.proofs.Choice.{either}
 use Rattle.core.proofs.Refusals.{neither, Ready, ready}
-use Rattle.core.proofs.Running.{iterate-last, stays-fit}
+use Rattle.core.proofs.Iteration.{iterate-last}
+use Rattle.core.proofs.Running.{stays-fit}
 
 -- what is undrawn is a word
 undrawn-lt : undrawn < 4096

@@ -1,4 +1,4 @@
--- Those of document 01's "Refusal numbers" that are given so far, by name, and which number a call gives where several rules are broken.
+-- Document 01's "Refusal numbers" by name, and which number a call gives where several rules are broken.
 -- Assumes nothing.
 use Prim.Native.Nat.{ℕ}
 use mathlib.Core.Bool.{Bool, cond}
@@ -7,6 +7,42 @@ use mathlib.Core.List.{List, [], _∷_}
 -- no rule is broken: the call is accepted
 abbrev pub accepted : ℕ
 accepted = 0
+
+-- 1: "deck shorter than its counts"
+abbrev pub deckTooShort : ℕ
+deckTooShort = 1
+
+-- 2: "bytes after the lines"
+abbrev pub bytesAfterLines : ℕ
+bytesAfterLines = 2
+
+-- 3: "L above 256"
+abbrev pub linesAbove256 : ℕ
+linesAbove256 = 3
+
+-- 4: "a label's line not below L"
+abbrev pub labelNotBelowLines : ℕ
+labelNotBelowLines = 4
+
+-- 5: "operation above 27"
+abbrev pub operationAbove27 : ℕ
+operationAbove27 = 5
+
+-- 6: "second byte not allowed"
+abbrev pub secondByteNotAllowed : ℕ
+secondByteNotAllowed = 6
+
+-- 7: "operand not allowed: cell above 15, label not below K, NOP operand not 0"
+abbrev pub operandNotAllowed : ℕ
+operandNotAllowed = 7
+
+-- 8: "W above 256"
+abbrev pub wordsAbove256 : ℕ
+wordsAbove256 = 8
+
+-- 9: "output shorter than W"
+abbrev pub outputTooShort : ℕ
+outputTooShort = 9
 
 -- 10: "word above 4095"
 abbrev pub wordAbove4095 : ℕ

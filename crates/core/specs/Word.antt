@@ -59,6 +59,10 @@ flagZ = 3
 unfoldable pub flag : ℕ → ℕ → Bool
 flag f sr = isSet f sr
 
+-- what `is_flag_set` promises of its answer
+abbrev pub FlagPromise : ℕ → ℕ → Bool → Type 0
+FlagPromise f sr answer = answer ≡ flag f sr
+
 -- The table of words from its right side to its left: the word in which an instruction's fields stand by position.
 unfoldable pub wordOf : Instruction → ℕ
 wordOf (S k) = 0b0000 * 2 ^ 8 + k
@@ -82,11 +86,11 @@ inRange (I mode immediate) = fits 3 mode && fits 8 immediate
 -- "Where an answer is an enum, a definition gives this paper's number and values for each of its cases, and the promises use that
 -- definition". The number is 0 where nothing is refused. The values of an accepted word are its instruction, since each kind has document
 -- 01's fields in its table's order; a refused word has no result field that could be 0, and so none.
-pub record NumberAndValues : Type 0 where
+pub record NumberAndValues (A : Type 0) : Type 0 where
   pub number : ℕ
-  pub values : List Instruction
+  pub values : List A
 
-abbrev pub numberAndValues : Decoded → NumberAndValues
+abbrev pub numberAndValues : Decoded → NumberAndValues Instruction
 numberAndValues (Decoded.Accepted instruction) = record { number = accepted; values = instruction ∷ [] }
 numberAndValues (Decoded.Refused number) = record { number = number; values = [] }
 
@@ -95,7 +99,7 @@ abbrev pub decodeRefusal : ℕ → ℕ
 decodeRefusal word = firstBroken (check (ltb 4095 word) wordAbove4095 ∷ [])
 
 -- the decoder's answer
-unfoldable pub decoded : ℕ → NumberAndValues
+unfoldable pub decoded : ℕ → NumberAndValues Instruction
 decoded word =
     record { number = decodeRefusal word; values = cond (eqb (decodeRefusal word) accepted) (instructionAt word ∷ []) [] }
 

@@ -2,7 +2,7 @@
 ghost use mathlib.Core.Path.{_≡_};
 ghost use mathlib.Core.Bool.{true};
 ghost use Prim.Native.Nat.{_+_, _-_, _*_, _^_, _<_, _≤_};
-ghost use Rattle.core.specs.Word.{bits, isSet, instructionAt, fits, inRange, wordOf, DecodePromise, EncodePromise};
+ghost use Rattle.core.specs.Word.{bits, isSet, instructionAt, fits, inRange, wordOf, FlagPromise, DecodePromise, EncodePromise};
 use super::address::DataAddress;
 use super::address::ProgramAddress;
 use super::refusal::ACCEPTED;
@@ -149,4 +149,14 @@ pub fn encode(instruction: Instruction) -> Encoded
             word: 0,
         }
     }
+}
+
+// Whether a flag of SR is 1: 0 = O, 1 = S, 2 = C, 3 = Z. A flag above 7 is no bit of a byte, and is 0.
+pub fn is_flag_set(flag: u8, sr: u8) -> bool
+    ensures { λ r. ⌜ FlagPromise flag sr r ⌝ }
+{
+    if 7 < flag {
+        return false;
+    }
+    is_set(flag as u16, sr as u16)
 }

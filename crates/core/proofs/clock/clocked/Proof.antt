@@ -8,7 +8,8 @@ use native.Mathlib.Omega.{arith}
 use Rattle.core.specs.Clock.{clock}
 use Rattle.core.specs.Iterate.{iterate}
 use Rattle.core.specs.Machine.{state, memoryOf}
-use Rattle.core.proofs.Running.{iterate-last, Fit, stays-fit}
+use Rattle.core.proofs.Iteration.{iterate-last}
+use Rattle.core.proofs.Running.{Fit, stays-fit}
 use Rattle.core.proofs.clock.clocked.Statement.{statement}
 use Rattle.core.proofs.clock.clocked.Tie as tie
 
