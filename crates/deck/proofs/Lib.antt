@@ -1,0 +1,11 @@
+pub mod Addresses
+pub mod Determined
+pub mod LineCode
+pub mod ListingDeck
+pub mod ListingText
+pub mod Parts
+pub mod Reading
+pub mod Rows
+pub mod Runs
+pub mod Sound
+pub mod Writing

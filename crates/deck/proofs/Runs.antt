@@ -1,0 +1,117 @@
+-- What the loop of the line runner goes by: one line more is the last one, and a run that has passed the last line stays as it is and costs nothing.
+-- Assumes nothing.
+use Prim.Native.Nat.{ℕ, _+_, _-_, _*_, _≤_, _<_}
+use mathlib.Core.Path.{_≡_, refl, sym, ap, _∙_}
+use native.Mathlib.Nat.{add-zero}
+use native.Mathlib.Numerals.{add-one}
+use native.Mathlib.Omega.{arith}
+use borrow.Author.Tests.{lt-ltb, le-ltb}
+use lib.ListN.{length}
+use Rattle.core.proofs.Choice.{either}
+use Rattle.core.proofs.Effects.{effect-flags, effect-cells}
+use Rattle.core.proofs.Iteration.{iterate-last, total-last, iterate-still, total-still, iterate-add, total-add}
+use Rattle.core.specs.Rule.{Act, Visible}
+use Rattle.core.specs.Word.{flag}
+use Rattle.deck.specs.Lines.{LineState, lineEffect, lineNext, executed, stepped, lineStep, lineCost, lineTally, afterLines, linesOf, clocksOf}
+use Rattle.deck.specs.Operation.{Program, Lands}
+use Rattle.deck.specs.declared.operation.Operation.{Operation}
+
+module _ (p : Program) (s : LineState) where
+  module _ (h : s .position < p .count) where
+    is-stepped : lineStep p s ≡ stepped (p .line (s .position)) s
+    unfolding lineStep
+    is-stepped = rw (lt-ltb (s .position) (p .count) h)
+
+    its-cost : lineCost p s ≡ 3 * executed (p .line (s .position)) (s .sees .sr)
+    unfolding lineCost
+    its-cost = rw (lt-ltb (s .position) (p .count) h)
+
+    its-tally : lineTally p s ≡ 1
+    unfolding lineTally
+    its-tally = rw (lt-ltb (s .position) (p .count) h)
+
+  module _ (h : p .count ≤ s .position) where
+    still : lineStep p s ≡ s
+    unfolding lineStep
+    still = rw (le-ltb (s .position) (p .count) h)
+
+    no-cost : lineCost p s ≡ 0
+    unfolding lineCost
+    no-cost = rw (le-ltb (s .position) (p .count) h)
+
+    no-tally : lineTally p s ≡ 0
+    unfolding lineTally
+    no-tally = rw (le-ltb (s .position) (p .count) h)
+
+-- a run of n lines that has come to a state
+module _ (p : Program) (start : LineState) (n : ℕ) (s : LineState) (at : s ≡ afterLines p n start) where
+  -- with a line there, one more is run
+  module _ (h : s .position < p .count) where
+    pub goes-on : stepped (p .line (s .position)) s ≡ afterLines p (n + 1) start
+    goes-on = sym (is-stepped p s h) ∙ rw (add-one, iterate-last (lineStep p) n start) (ap (lineStep p) at)
+
+    pub one-line-more : (lines : ℕ) → lines ≡ linesOf p n start → lines + 1 ≡ linesOf p (n + 1) start
+    one-line-more lines e = rw (add-one n, total-last (lineStep p) (lineTally p) n start, sym at, its-tally p s h, e)
+
+    pub clocks-more : (clocks : ℕ) → clocks ≡ clocksOf p n start
+        → clocks + 3 * executed (p .line (s .position)) (s .sees .sr) ≡ clocksOf p (n + 1) start
+    clocks-more clocks e = rw (add-one n, total-last (lineStep p) (lineCost p) n start, sym at, its-cost p s h, e)
+
+  -- past the last line, more lines asked for change nothing
+  module _ (h : p .count ≤ s .position) (asked : ℕ) (le : n ≤ asked) where
+    rest : asked ≡ n + (asked - n)
+    rest = omega arith
+
+    pub stopped : s ≡ afterLines p asked start
+    stopped =
+        at ∙ sym (iterate-still (lineStep p) (afterLines p n start) (rw (sym at) (still p s h)) (asked - n))
+        ∙ sym (iterate-add (lineStep p) n (asked - n) start) ∙ ap (λ (k : ℕ). afterLines p k start) (sym rest)
+
+    pub stopped-lines : linesOf p n start ≡ linesOf p asked start
+    stopped-lines =
+        sym (ap (λ (k : ℕ). linesOf p k start) rest ∙ total-add (lineStep p) (lineTally p) n (asked - n) start
+        ∙ ap (λ (k : ℕ). linesOf p n start + k) (total-still (lineStep p) (lineTally p) (afterLines p n start) (rw (sym at) (still p s h)) (rw (sym at) (no-tally p s h)) (asked - n))
+        ∙ add-zero (linesOf p n start))
+
+    pub stopped-clocks : clocksOf p n start ≡ clocksOf p asked start
+    stopped-clocks =
+        sym (ap (λ (k : ℕ). clocksOf p k start) rest ∙ total-add (lineStep p) (lineCost p) n (asked - n) start
+        ∙ ap (λ (k : ℕ). clocksOf p n start + k) (total-still (lineStep p) (lineCost p) (afterLines p n start) (rw (sym at) (still p s h)) (rw (sym at) (no-cost p s h)) (asked - n))
+        ∙ add-zero (clocksOf p n start))
+
+-- a line executes at most two words
+pub executed-le : (operation : Operation) (sr : ℕ) → executed operation sr ≤ 2
+executed-le (Operation.M d mode cell) sr = omega arith
+executed-le (Operation.I mode immediate) sr = omega arith
+executed-le (Operation.Goto line) sr = omega arith
+executed-le (Operation.JumpIf f line) sr = omega arith
+executed-le (Operation.JumpUnless f line) sr = either (λ (k : ℕ). k ≤ 2) (flag f sr) 1 2 (omega arith) (omega arith)
+executed-le Operation.Nop sr = omega arith
+
+-- from a line, a run comes to a line or to the position past the last
+pub lands-next : (operation : Operation) (count position sr : ℕ) → Lands count operation → position < count → lineNext operation position sr ≤ count
+lands-next (Operation.M d mode cell) count position sr l h = omega arith
+lands-next (Operation.I mode immediate) count position sr l h = omega arith
+lands-next (Operation.Goto line) count position sr l h = omega arith
+lands-next (Operation.JumpIf f line) count position sr l h =
+    either (λ (k : ℕ). k ≤ count) (flag f sr) line (position + 1) (omega arith) (omega arith)
+lands-next (Operation.JumpUnless f line) count position sr l h =
+    either (λ (k : ℕ). k ≤ count) (flag f sr) (position + 1) line (omega arith) (omega arith)
+lands-next Operation.Nop count position sr l h = omega arith
+
+-- and it keeps four bits of flags and its cells
+pub line-flags : (operation : Operation) (v : Visible) → v .sr < 16 → lineEffect operation v .sr < 16
+line-flags (Operation.M d mode cell) v h = effect-flags (Act.OnCell d mode cell) v h
+line-flags (Operation.I mode immediate) v h = effect-flags (Act.OnImmediate mode immediate) v h
+line-flags (Operation.Goto line) v h = h
+line-flags (Operation.JumpIf f line) v h = h
+line-flags (Operation.JumpUnless f line) v h = h
+line-flags Operation.Nop v h = h
+
+pub line-cells : (operation : Operation) (v : Visible) → length (lineEffect operation v .cells) ≡ length (v .cells)
+line-cells (Operation.M d mode cell) v = effect-cells (Act.OnCell d mode cell) v
+line-cells (Operation.I mode immediate) v = effect-cells (Act.OnImmediate mode immediate) v
+line-cells (Operation.Goto line) v = refl
+line-cells (Operation.JumpIf f line) v = refl
+line-cells (Operation.JumpUnless f line) v = refl
+line-cells Operation.Nop v = refl

@@ -1,0 +1,23 @@
+-- `deck::listing::digit` meets its promise: its test is the definition's.
+-- Assumes nothing.
+use borrow.Author.Needs.{needs}
+use borrow.Author.Tests.{lt-ltb, le-ltb}
+use Rattle.deck.proofs.listing.digit.Statement.{statement}
+use Rattle.deck.proofs.listing.digit.Tie as tie
+
+returns : tie.Need-returns
+returns c = simp (lt-ltb (c .before .args .number) 10 (c .if1 .taken))
+
+returns-2 : tie.Need-returns-2
+returns-2 c = simp (le-ltb (c .before .args .number) 10 (c .if1 .left))
+
+pub digit-spec : {M : Type 1} → statement M
+digit-spec =
+    tie.close
+    (tie.spec
+    (λ c. search needs)
+    (λ c. search needs)
+    (λ c. search needs)
+    (λ c. search needs)
+    returns
+    returns-2)

@@ -1,0 +1,7 @@
+pub mod Bytes
+pub mod Operation
+pub mod Image
+pub mod Deck
+pub mod Translate
+pub mod Lines
+pub mod Listing

@@ -1,0 +1,133 @@
+-- Document 01's line rules, which "speak of lines alone: position, Acc, flags, cells", and what the line runner answers.
+-- Assumes nothing.
+use Prim.Native.Nat.{ℕ, _+_, _*_, _≤_}
+use mathlib.Core.Bool.{Bool, cond, not}
+use mathlib.Core.List.{List, [], _∷_, _++_}
+use mathlib.Core.Path.{_≡_}
+use lib.Dec.{eqb, ltb}
+use lib.ListN.{length}
+use Rattle.core.specs.Iterate.{iterate, total}
+use Rattle.core.specs.Refusal.{accepted, notSixteenCells, check, firstBroken}
+use Rattle.core.specs.Rule.{Act, Visible, effect}
+use Rattle.core.specs.Word.{flag}
+use Rattle.deck.specs.Bytes.{lineCount}
+use Rattle.deck.specs.Deck.{deckChecks}
+use Rattle.deck.specs.Image.{counterAt}
+use Rattle.deck.specs.Operation.{Program, program}
+use Rattle.deck.specs.declared.lines.LinesRun.{LinesRun}
+use Rattle.deck.specs.declared.lines.Reached.{Reached}
+use Rattle.deck.specs.declared.lines.Registers.{Registers}
+use Rattle.deck.specs.declared.operation.Operation.{Operation}
+use Rattle.deck.specs.declared.operation.Operation.the-variants.{M, I, Goto, JumpIf, JumpUnless, Nop}
+
+-- where a run stands, and what it computes with
+pub record LineState : Type 0 where
+  pub position : ℕ
+  pub sees : Visible
+
+abbrev pub lineState : ℕ → Visible → LineState
+lineState position sees = record { position = position; sees = sees }
+
+-- what the code's registers and the cells are to the rules
+abbrev pub seen : Registers → List ℕ → Visible
+seen registers cells = record { acc = registers .acc; sr = registers .sr; cells = cells }
+
+-- what a line does to Acc, flags and cells: an M or an I operation does what the instruction does, the others nothing
+abbrev pub lineEffect : Operation → Visible → Visible
+lineEffect (M d mode cell) v = effect (Act.OnCell d mode cell) v
+lineEffect (I mode immediate) v = effect (Act.OnImmediate mode immediate) v
+lineEffect (Goto line) v = v
+lineEffect (JumpIf f line) v = v
+lineEffect (JumpUnless f line) v = v
+lineEffect Nop v = v
+
+-- "A jump moves to its label's line; other lines go to the next. Operation 26 jumps when the flag is 0."
+abbrev pub lineNext : Operation → ℕ → ℕ → ℕ
+lineNext (M d mode cell) position sr = position + 1
+lineNext (I mode immediate) position sr = position + 1
+lineNext (Goto line) position sr = line
+lineNext (JumpIf f line) position sr = cond (flag f sr) line (position + 1)
+lineNext (JumpUnless f line) position sr = cond (flag f sr) (position + 1) line
+lineNext Nop position sr = position + 1
+
+-- The words that a line executes: all that it has, but where operation 26 does not jump its GOTO is skipped.
+abbrev pub executed : Operation → ℕ → ℕ
+executed (M d mode cell) sr = 1
+executed (I mode immediate) sr = 1
+executed (Goto line) sr = 1
+executed (JumpIf f line) sr = 1
+executed (JumpUnless f line) sr = cond (flag f sr) 1 2
+executed Nop sr = 1
+
+-- a run "stops on passing the last line"
+abbrev pub running : Program → LineState → Bool
+running p s = ltb (s .position) (p .count)
+
+-- one line that is there
+abbrev pub stepped : Operation → LineState → LineState
+stepped operation s =
+    record { position = lineNext operation (s .position) (s .sees .sr); sees = lineEffect operation (s .sees) }
+
+-- One line by the rules. Past the last line nothing more happens, at no cost; so a run of n lines is n of these, "fewer if the run passes the last line".
+unfoldable pub lineStep : Program → LineState → LineState
+lineStep p s = cond (running p s) (stepped (p .line (s .position)) s) s
+
+-- "Cost: 3 clocks for each executed word, so operation 26 costs 3 if the flag is 1 and 6 otherwise."
+unfoldable pub lineCost : Program → LineState → ℕ
+lineCost p s = cond (running p s) (3 * executed (p .line (s .position)) (s .sees .sr)) 0
+
+unfoldable pub lineTally : Program → LineState → ℕ
+lineTally p s = cond (running p s) 1 0
+
+-- "A run starts at line 0 with Acc and flags 0"
+abbrev pub atStart : List ℕ → LineState
+atStart cells = lineState 0 (record { acc = 0; sr = 0; cells = cells })
+
+-- after so many lines asked for: where the run stands, the lines that it ran, the clocks that they cost
+abbrev pub afterLines : Program → ℕ → LineState → LineState
+afterLines p asked s = iterate (lineStep p) asked s
+
+abbrev pub linesOf : Program → ℕ → LineState → ℕ
+linesOf p asked s = total (lineTally p) (lineStep p) asked s
+
+abbrev pub clocksOf : Program → ℕ → LineState → ℕ
+clocksOf p asked s = total (lineCost p) (lineStep p) asked s
+
+-- what a run that is not refused reaches and counts
+abbrev pub Reaches : ℕ → List ℕ → List ℕ → Reached → List ℕ → Type 0
+Reaches asked deck cells r cells' =
+    (lineState (r .position) (seen (r .registers) cells') ≡ afterLines (program deck) asked (atStart cells))
+    × (r .lines ≡ linesOf (program deck) asked (atStart cells))
+    × (r .clocks ≡ clocksOf (program deck) asked (atStart cells))
+    × (r .position ≤ lineCount deck)
+
+-- "The translator then tries 9, the line runner 12."
+unfoldable pub linesRefusal : List ℕ → ℕ → ℕ
+linesRefusal deck count = firstBroken (deckChecks deck ++ check (not (eqb count 16)) notSixteenCells ∷ [])
+
+-- "The line runner returns the lines run, the clocks, Acc, flags, the position reached and its address modulo 256 (the PC)"
+abbrev pub ranAs : Program → ℕ → ℕ → LineState → LinesRun
+ranAs p lines clocks s =
+    record {
+      refusal = accepted;
+      lines = lines;
+      clocks = clocks;
+      acc = s .sees .acc;
+      flags = s .sees .sr;
+      position = s .position;
+      pc = counterAt p (s .position);
+    }
+
+-- "A refusal returns its number; .. other result fields are 0, cells and output are unchanged."
+abbrev pub noLines : ℕ → LinesRun
+noLines number =
+    record { refusal = number; lines = 0; clocks = 0; acc = 0; flags = 0; position = 0; pc = record { 0 = 0 } }
+
+-- what `run_lines` promises of its answer and of the cells: ".. the cells hold what the lines left"
+abbrev pub LinesPromise : ℕ → List ℕ → List ℕ → LinesRun → List ℕ → Type 0
+LinesPromise asked deck cells answer cells' =
+    let number : ℕ = linesRefusal deck (length cells) in
+    let p : Program = program deck in
+    let end : LineState = afterLines p asked (atStart cells) in
+    (answer ≡ cond (eqb number accepted) (ranAs p (linesOf p asked (atStart cells)) (clocksOf p asked (atStart cells)) end) (noLines number))
+    × (cells' ≡ cond (eqb number accepted) (end .sees .cells) cells)
