@@ -2,11 +2,11 @@
 ghost use mathlib.Core.Path.{_≡_};
 ghost use Prim.Native.Nat.{_+_, _≤_, _<_};
 ghost use lib.ListN.{length};
-ghost use Rattle.deck.specs.Bytes.{twoBytesAt, labelCount, lineCountAt, lineCount, recordAt};
+ghost use Rattle.deck.specs.Bytes.{twoBytesAt, labelCount, labelLine, lineCountAt, lineCount, recordAt};
 ghost use Rattle.deck.specs.Deck.{Complete};
 
 // "two-byte numbers low byte first"
-pub(crate) fn two_bytes(deck: &[u8], place: usize) -> u16
+fn two_bytes(deck: &[u8], place: usize) -> u16
     requires { ⌜ place + 1 < length (now deck) ⌝ }
     ensures { λ r. ⌜ r ≡ twoBytesAt (now (deck .entry)) place ⌝ }
 {
@@ -19,6 +19,14 @@ pub(crate) fn label_count(deck: &[u8]) -> u8
     ensures { λ r. ⌜ r ≡ labelCount (now (deck .entry)) ⌝ }
 {
     deck[0]
+}
+
+// The line of a label.
+pub(crate) fn label_line(deck: &[u8], label: u8) -> u16
+    requires { ⌜ Complete (now deck) × (label < labelCount (now deck)) ⌝ }
+    ensures { λ r. ⌜ r ≡ labelLine (now (deck .entry)) label ⌝ }
+{
+    two_bytes(deck, 1 + 2 * label as usize)
 }
 
 // Where L stands.

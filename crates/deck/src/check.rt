@@ -4,10 +4,10 @@ ghost use Rattle.core.specs.Refusal.{firstBroken};
 ghost use Rattle.deck.specs.Deck.{Complete, layoutChecks, labelChecks, lineChecks, CheckPromise};
 use super::address::address_of;
 use super::bytes::label_count;
+use super::bytes::label_line;
 use super::bytes::line_count;
 use super::bytes::line_count_at;
 use super::bytes::record_at;
-use super::bytes::two_bytes;
 use super::line::Line;
 use super::line::read_line;
 use core::refusal::ACCEPTED;
@@ -54,7 +54,7 @@ fn labels_refusal(deck: &[u8]) -> u8
     let lines = line_count(deck);
     let mut label: u8 = 0;
     while label < labels {
-        if lines <= two_bytes(deck, 1 + 2 * label as usize) {
+        if lines <= label_line(deck, label) {
             return LABEL_NOT_BELOW_LINES;
         }
         label += 1;

@@ -3,7 +3,7 @@ ghost use mathlib.Core.Path.{_≡_};
 ghost use Rattle.deck.specs.Deck.{Complete};
 ghost use Rattle.deck.specs.Operation.{labelNumberAndValues, lookedUp};
 use super::bytes::label_count;
-use super::bytes::two_bytes;
+use super::bytes::label_line;
 
 // The line of a label, or none.
 pub(crate) enum Label {
@@ -17,7 +17,7 @@ pub(crate) fn look_up(deck: &[u8], label: u8) -> Label
     ensures { λ r. ⌜ labelNumberAndValues r ≡ lookedUp (now (deck .entry)) label ⌝ }
 {
     if label < label_count(deck) {
-        return Label::Line(two_bytes(deck, 1 + 2 * label as usize));
+        return Label::Line(label_line(deck, label));
     }
     Label::Missing
 }

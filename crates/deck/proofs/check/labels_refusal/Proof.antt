@@ -28,19 +28,10 @@ line-count-requires c κs = omega (arith, c .before .before .pre .ends)
 loop-holds : tie.Need-loop-holds Inv-loop μ-loop
 loop-holds c = (omega arith, refl)
 
-cast-two-bytes : tie.Need-cast-two-bytes Inv-loop μ-loop
-cast-two-bytes c = omega arith
-
-mul-two-bytes : tie.Need-mul-two-bytes Inv-loop μ-loop
-mul-two-bytes c = omega arith
-
-add-two-bytes : tie.Need-add-two-bytes Inv-loop μ-loop
-add-two-bytes c = omega arith
-
-two-bytes-requires : tie.Need-two-bytes-requires Inv-loop μ-loop
-two-bytes-requires c κs =
+label-line-requires : tie.Need-label-line-requires Inv-loop μ-loop
+label-line-requires c κs =
     let labels = c .before .before .before in
-    omega (arith, c .loop-test .taken, labels .label-count .ensures, labels .before .before .pre .ends)
+    (labels .before .before .pre, rw (sym (labels .label-count .ensures)) (c .loop-test .taken))
 
 returns : tie.Need-returns Inv-loop μ-loop
 returns c =
@@ -48,7 +39,7 @@ returns c =
     let labels-line = c .before .before .before .before in
     let labels = labels-line .before in
     let deck = now (labels .before .before .args .deck) in
-    let bad : lineCount deck ≤ labelLine deck (l .label) = (rw (sym (labels-line .line-count .ensures), sym (c .before .two-bytes .ensures)) (c .if1 .taken)) in
+    let bad : lineCount deck ≤ labelLine deck (l .label) = (rw (sym (labels-line .line-count .ensures), sym (c .before .label-line .ensures)) (c .if1 .taken)) in
     sym (decides (checksOfLabel deck) (of-label deck) (l .label) (labelCount deck) (rw (sym (labels .label-count .ensures)) (c .before .before .loop-test .taken)) (l .inv .1) (rw (le-ltb _ _ bad)) ∙ rw (le-ltb _ _ bad))
 
 add-label : tie.Need-add-label Inv-loop μ-loop
@@ -63,7 +54,7 @@ loop-again c =
     let labels-line = c .before .before .before .before in
     let labels = labels-line .before in
     let deck = now (labels .before .before .args .deck) in
-    let good : labelLine deck (l .label) < lineCount deck = (rw (sym (labels-line .line-count .ensures), sym (c .before .two-bytes .ensures)) (c .if1 .left)) in
+    let good : labelLine deck (l .label) < lineCount deck = (rw (sym (labels-line .line-count .ensures), sym (c .before .label-line .ensures)) (c .if1 .left)) in
     (omega (arith, c .before .before .loop-test .taken), rw add-one (next-one (checksOfLabel deck) (of-label deck) (l .label) (l .inv .1) ∙ rw (lt-ltb _ _ good)))
 
 returns-2 : tie.Need-returns-2 Inv-loop μ-loop
@@ -82,10 +73,7 @@ labels-refusal-spec =
     label-count-requires
     line-count-requires
     loop-holds
-    cast-two-bytes
-    mul-two-bytes
-    add-two-bytes
-    two-bytes-requires
+    label-line-requires
     returns
     add-label
     loop-less

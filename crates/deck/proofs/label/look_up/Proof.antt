@@ -11,19 +11,11 @@ returns : tie.Need-returns
 unfolding lookedUp
 returns c =
     let k = c .before .before .label-count .ensures in
-    rw (sym k, lt-ltb _ _ (c .before .if1 .taken), c .two-bytes .ensures)
+    rw (sym k, lt-ltb _ _ (c .before .if1 .taken), c .label-line .ensures)
 
 returns-2 : tie.Need-returns-2
 unfolding lookedUp
 returns-2 c = rw (sym (c .before .label-count .ensures), le-ltb _ _ (c .if1 .left))
 
 pub look-up-spec : {M : Type 1} → statement M
-look-up-spec =
-    tie.close
-    (tie.spec
-    (λ c κs. search needs)
-    (λ c. search needs)
-    (λ c. search needs)
-    (λ c κs. search needs)
-    returns
-    returns-2)
+look-up-spec = tie.close (tie.spec (λ c κs. search needs) (λ c κs. search needs) returns returns-2)
