@@ -74,6 +74,11 @@ lineNumberAndValues (Line.Refused number) = record { number = number; values = [
 abbrev pub readAs : ℕ → Operation → NumberAndValues Operation
 readAs number operation = record { number = number; values = cond (eqb number accepted) (operation ∷ []) [] }
 
+-- a record that is read: the number of the first rule that it breaks, and what it is
+abbrev pub recordRead : List ℕ → ℕ → ℕ → ℕ → NumberAndValues Operation
+recordRead deck operation second operand =
+    readAs (firstBroken (recordChecks deck operation second operand)) (rowOf deck operation .means second operand)
+
 -- the number of the first rule that a line breaks
 unfoldable pub lineRefusal : List ℕ → ℕ → ℕ
 lineRefusal deck line = firstBroken (checksOfLine deck line)

@@ -1,7 +1,9 @@
 // The check of a deck: "1 for K and labels, 1 for L, 3, 1 for records, 2, then 4 in label order, then line by line 5, 6, 7, then 8."
 ghost use mathlib.Core.Path.{_≡_};
-ghost use Rattle.core.specs.Refusal.{firstBroken};
-ghost use Rattle.deck.specs.Deck.{Complete, layoutChecks, labelChecks, lineChecks, CheckPromise};
+ghost use mathlib.Core.Bool.{cond};
+ghost use lib.Dec.{eqb};
+ghost use Rattle.core.specs.Refusal.{accepted, firstBroken};
+ghost use Rattle.deck.specs.Deck.{Complete, layoutChecks, labelChecks, lineChecks, wordsChecks, CheckPromise};
 use super::address::address_of;
 use super::bytes::label_count;
 use super::bytes::label_line;
@@ -32,10 +34,10 @@ fn layout_refusal(deck: &[u8]) -> u8
         return DECK_TOO_SHORT;
     }
     let lines = line_count(deck);
+    let end = record_at(deck, lines);
     if 256 < lines {
         return LINES_ABOVE_256;
     }
-    let end = record_at(deck, lines);
     if length < end {
         return DECK_TOO_SHORT;
     }
@@ -79,6 +81,24 @@ fn lines_refusal(deck: &[u8]) -> u8
     ACCEPTED
 }
 
+// "then 8": "W above 256"
+fn words_refusal(deck: &[u8]) -> u8
+    requires { ⌜ Complete (now deck) ⌝ }
+    ensures { λ r. ⌜ r ≡ firstBroken (wordsChecks (now (deck .entry))) ⌝ }
+{
+    if 256 < address_of(deck, line_count(deck)) {
+        return WORDS_ABOVE_256;
+    }
+    ACCEPTED
+}
+
+// The number of some checks, or else that of the checks after them.
+fn or_else(number: u8, after: u8) -> u8
+    ensures { λ r. ⌜ r ≡ cond (eqb number accepted) after number ⌝ }
+{
+    if number == ACCEPTED { after } else { number }
+}
+
 // The number of the first rule that a deck breaks: 1 to 8, or 0 if it is accepted.
 pub fn check(deck: &[u8]) -> u8
     ensures { λ r. ⌜ CheckPromise (now (deck .entry)) r ⌝ }
@@ -88,15 +108,7 @@ pub fn check(deck: &[u8]) -> u8
         return layout;
     }
     let labels = labels_refusal(deck);
-    if labels != ACCEPTED {
-        return labels;
-    }
     let lines = lines_refusal(deck);
-    if lines != ACCEPTED {
-        return lines;
-    }
-    if 256 < address_of(deck, line_count(deck)) {
-        return WORDS_ABOVE_256;
-    }
-    ACCEPTED
+    let words = words_refusal(deck);
+    or_else(labels, or_else(lines, words))
 }

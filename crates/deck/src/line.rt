@@ -5,8 +5,8 @@ ghost use Prim.Native.Nat.{_≤_, _<_};
 ghost use lib.Dec.{eqb};
 ghost use Rattle.core.specs.Refusal.{accepted, firstBroken};
 ghost use Rattle.deck.specs.Bytes.{lineCount};
-ghost use Rattle.deck.specs.Deck.{Complete, boundChecks, recordChecks, lineRefusal, deckRefusal, readAs, lineNumberAndValues};
-ghost use Rattle.deck.specs.Operation.{rowOf, operationAt};
+ghost use Rattle.deck.specs.Deck.{Complete, boundChecks, lineRefusal, deckRefusal, readAs, recordRead, lineNumberAndValues};
+ghost use Rattle.deck.specs.Operation.{operationAt};
 use super::bytes::record_at;
 use super::label::Label;
 use super::label::look_up;
@@ -45,7 +45,7 @@ fn jump_seconds(operation: u8) -> u8
 // "For a jump whose second byte is allowed, the label is looked up first, and a missing one ends the translation with 7."
 fn jump(deck: &[u8], operation: u8, second: u8, operand: u8) -> Line
     requires { ⌜ Complete (now deck) × (24 ≤ operation) × (operation < 27) ⌝ }
-    ensures { λ r. ⌜ lineNumberAndValues r ≡ readAs (firstBroken (recordChecks (now (deck .entry)) operation second operand)) (rowOf (now (deck .entry)) operation .means second operand) ⌝ }
+    ensures { λ r. ⌜ lineNumberAndValues r ≡ recordRead (now (deck .entry)) operation second operand ⌝ }
 {
     if jump_seconds(operation) <= second {
         return Line::Refused(SECOND_BYTE_NOT_ALLOWED);
@@ -66,7 +66,7 @@ fn jump(deck: &[u8], operation: u8, second: u8, operand: u8) -> Line
 // The table of operations, row by row.
 fn read(deck: &[u8], operation: u8, second: u8, operand: u8) -> Line
     requires { ⌜ Complete (now deck) ⌝ }
-    ensures { λ r. ⌜ lineNumberAndValues r ≡ readAs (firstBroken (recordChecks (now (deck .entry)) operation second operand)) (rowOf (now (deck .entry)) operation .means second operand) ⌝ }
+    ensures { λ r. ⌜ lineNumberAndValues r ≡ recordRead (now (deck .entry)) operation second operand ⌝ }
 {
     if operation < 16 {
         let cell = DataAddress(operand);

@@ -46,7 +46,7 @@ fn target_of(deck: &[u8], line: u16) -> ProgramAddress
 
 // "jump if f to (p+2) mod 256": past the GOTO that comes after it. From the last two words of the memory that is address 0.
 fn skip_target(here: u16) -> ProgramAddress
-    requires { ⌜ here < 256 ⌝ }
+    requires { ⌜ here < 255 ⌝ }
     ensures { λ r. ⌜ r ≡ programAddress ((here + 2) % 256) ⌝ }
 {
     ProgramAddress(((here + 2) % 256) as u8)

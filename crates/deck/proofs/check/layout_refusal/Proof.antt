@@ -17,39 +17,33 @@ returns c =
 
 returns-2 : tie.Need-returns-2
 returns-2 c =
-    let x = c .before .before .before .before .args in
-    let deck = now (x .deck) in
+    let deck = now (c .before .before .before .before .args .deck) in
     rw (lt-ltb (length deck) (lineCountAt deck) (rw (sym (c .before .line-count-at .ensures .0)) (c .if2 .taken)))
 
 returns-3 : tie.Need-returns-3
 returns-3 c =
-    let x = c .before .before .before .before .before .before .args in
-    let deck = now (x .deck) in
+    let deck = now (c .before .before .before .before .before .before .args .deck) in
     rw (le-ltb (length deck) (lineCountAt deck) (rw (sym (c .before .before .before .line-count-at .ensures .0)) (c .before .before .if2 .left)), lt-ltb (length deck) (recordAt deck 0) (rw (sym (c .before .record-at .ensures)) (c .if3 .taken)))
 
 returns-4 : tie.Need-returns-4
 returns-4 c =
-    let x = c .before .before .before .before .before .before .before .before .args in
-    let deck = now (x .deck) in
-    rw (le-ltb (length deck) (lineCountAt deck) (rw (sym (c .before .before .before .before .before .line-count-at .ensures .0)) (c .before .before .before .before .if2 .left)), le-ltb (length deck) (recordAt deck 0) (rw (sym (c .before .before .before .record-at .ensures)) (c .before .before .if3 .left)), lt-ltb 256 (lineCount deck) (rw (sym (c .before .line-count .ensures)) (c .if4 .taken)))
+    let deck = now (c .before .before .before .before .before .before .before .before .before .args .deck) in
+    rw (le-ltb (length deck) (lineCountAt deck) (rw (sym (c .before .before .before .before .before .before .line-count-at .ensures .0)) (c .before .before .before .before .before .if2 .left)), le-ltb (length deck) (recordAt deck 0) (rw (sym (c .before .before .before .before .record-at .ensures)) (c .before .before .before .if3 .left)), lt-ltb 256 (lineCount deck) (rw (sym (c .before .before .line-count .ensures)) (c .if4 .taken)))
 
 returns-5 : tie.Need-returns-5
 returns-5 c =
-    let x = c .before .before .before .before .before .before .before .before .before .before .args in
-    let deck = now (x .deck) in
-    rw (le-ltb (length deck) (lineCountAt deck) (rw (sym (c .before .before .before .before .before .before .before .line-count-at .ensures .0)) (c .before .before .before .before .before .before .if2 .left)), le-ltb (length deck) (recordAt deck 0) (rw (sym (c .before .before .before .before .before .record-at .ensures)) (c .before .before .before .before .if3 .left)), le-ltb 256 (lineCount deck) (rw (sym (c .before .before .before .line-count .ensures)) (c .before .before .if4 .left)), lt-ltb (length deck) (recordAt deck (lineCount deck)) (rw (sym (c .before .before .before .line-count .ensures), sym (c .before .record-at2 .ensures)) (c .if5 .taken)))
+    let deck = now (c .before .before .before .before .before .before .before .before .before .before .args .deck) in
+    rw (le-ltb (length deck) (lineCountAt deck) (rw (sym (c .before .before .before .before .before .before .before .line-count-at .ensures .0)) (c .before .before .before .before .before .before .if2 .left)), le-ltb (length deck) (recordAt deck 0) (rw (sym (c .before .before .before .before .before .record-at .ensures)) (c .before .before .before .before .if3 .left)), le-ltb 256 (lineCount deck) (rw (sym (c .before .before .before .line-count .ensures)) (c .before .if4 .left)), lt-ltb (length deck) (recordAt deck (lineCount deck)) (rw (sym (c .before .before .before .line-count .ensures), sym (c .before .before .record-at2 .ensures)) (c .if5 .taken)))
 
 returns-6 : tie.Need-returns-6
 returns-6 c =
-    let x = c .before .before .before .before .before .before .before .before .before .before .before .args in
-    let deck = now (x .deck) in
-    rw (le-ltb (length deck) (lineCountAt deck) (rw (sym (c .before .before .before .before .before .before .before .before .line-count-at .ensures .0)) (c .before .before .before .before .before .before .before .if2 .left)), le-ltb (length deck) (recordAt deck 0) (rw (sym (c .before .before .before .before .before .before .record-at .ensures)) (c .before .before .before .before .before .if3 .left)), le-ltb 256 (lineCount deck) (rw (sym (c .before .before .before .before .line-count .ensures)) (c .before .before .before .if4 .left)), le-ltb (length deck) (recordAt deck (lineCount deck)) (rw (sym (c .before .before .before .before .line-count .ensures), sym (c .before .before .record-at2 .ensures)) (c .before .if5 .left)), lt-ltb (recordAt deck (lineCount deck)) (length deck) (rw (sym (c .before .before .before .before .line-count .ensures), sym (c .before .before .record-at2 .ensures)) (c .if6 .taken)))
+    let deck = now (c .before .before .before .before .before .before .before .before .before .before .before .args .deck) in
+    rw (le-ltb (length deck) (lineCountAt deck) (rw (sym (c .before .before .before .before .before .before .before .before .line-count-at .ensures .0)) (c .before .before .before .before .before .before .before .if2 .left)), le-ltb (length deck) (recordAt deck 0) (rw (sym (c .before .before .before .before .before .before .record-at .ensures)) (c .before .before .before .before .before .if3 .left)), le-ltb 256 (lineCount deck) (rw (sym (c .before .before .before .before .line-count .ensures)) (c .before .before .if4 .left)), le-ltb (length deck) (recordAt deck (lineCount deck)) (rw (sym (c .before .before .before .before .line-count .ensures), sym (c .before .before .before .record-at2 .ensures)) (c .before .if5 .left)), lt-ltb (recordAt deck (lineCount deck)) (length deck) (rw (sym (c .before .before .before .before .line-count .ensures), sym (c .before .before .before .record-at2 .ensures)) (c .if6 .taken)))
 
 returns-7 : tie.Need-returns-7
 returns-7 c =
-    let x = c .before .before .before .before .before .before .before .before .before .before .before .args in
-    let deck = now (x .deck) in
-    rw (le-ltb (length deck) (lineCountAt deck) (rw (sym (c .before .before .before .before .before .before .before .before .line-count-at .ensures .0)) (c .before .before .before .before .before .before .before .if2 .left)), le-ltb (length deck) (recordAt deck 0) (rw (sym (c .before .before .before .before .before .before .record-at .ensures)) (c .before .before .before .before .before .if3 .left)), le-ltb 256 (lineCount deck) (rw (sym (c .before .before .before .before .line-count .ensures)) (c .before .before .before .if4 .left)), le-ltb (length deck) (recordAt deck (lineCount deck)) (rw (sym (c .before .before .before .before .line-count .ensures), sym (c .before .before .record-at2 .ensures)) (c .before .if5 .left)), le-ltb (recordAt deck (lineCount deck)) (length deck) (rw (sym (c .before .before .before .before .line-count .ensures), sym (c .before .before .record-at2 .ensures)) (c .if6 .left)))
+    let deck = now (c .before .before .before .before .before .before .before .before .before .before .before .args .deck) in
+    rw (le-ltb (length deck) (lineCountAt deck) (rw (sym (c .before .before .before .before .before .before .before .before .line-count-at .ensures .0)) (c .before .before .before .before .before .before .before .if2 .left)), le-ltb (length deck) (recordAt deck 0) (rw (sym (c .before .before .before .before .before .before .record-at .ensures)) (c .before .before .before .before .before .if3 .left)), le-ltb 256 (lineCount deck) (rw (sym (c .before .before .before .before .line-count .ensures)) (c .before .before .if4 .left)), le-ltb (length deck) (recordAt deck (lineCount deck)) (rw (sym (c .before .before .before .before .line-count .ensures), sym (c .before .before .before .record-at2 .ensures)) (c .before .if5 .left)), le-ltb (recordAt deck (lineCount deck)) (length deck) (rw (sym (c .before .before .before .before .line-count .ensures), sym (c .before .before .before .record-at2 .ensures)) (c .if6 .left)))
 
 pub layout-refusal-spec : {M : Type 1} → statement M
 layout-refusal-spec =
@@ -61,8 +55,8 @@ layout-refusal-spec =
     (λ c κs. search needs)
     returns-3
     (λ c κs. search needs)
-    returns-4
     (λ c κs. search needs)
+    returns-4
     returns-5
     returns-6
     returns-7)

@@ -13,7 +13,7 @@ use Rattle.deck.specs.Bytes.{lineCount}
 use Rattle.deck.specs.Operation.{program, Fits}
 use Rattle.deck.specs.declared.operation.Operation.{Operation}
 use Rattle.deck.proofs.Addresses.{address-lt}
-use Rattle.deck.proofs.LineCode.{here-lt, first, second, one-word, two-words}
+use Rattle.deck.proofs.LineCode.{first, second, one-word, two-words}
 use Rattle.deck.proofs.Sound.{sound, line-fits, line-lands}
 use Rattle.deck.proofs.translate.write_line.Statement.{statement}
 use Rattle.deck.proofs.translate.write_line.Tie as tie
@@ -104,7 +104,10 @@ skip-target-requires c κs =
     let x = start .args in
     let deck = now (x .deck) in
     let p = start .pre in
-    here-lt deck (p .0) (x .line) (p .1) (x .here) (p .2) (now (x .output)) (p .3)
+    let told = c .before .before .operation5 .given in
+    let l = sym (c .before .before .before .before .operation-at .ensures) ∙ told .1 in
+    let next = second deck (p .0) (x .line) (p .1) (x .here) (p .2) (now (x .output)) (p .3) (Operation.JumpUnless (told .0 .0) (told .0 .1 .0)) l refl (Instruction.S 0) (lit< tt) in
+    omega (arith, next .0)
 
 write-requires-5 : tie.Need-write-requires-5
 write-requires-5 c κs =
