@@ -565,12 +565,86 @@ def report(name, deck):
     text = listing(deck)
     buffer = [255] * 2000
     buffer[:len(text)] = text
-    run = run_lines(deck, [7 * cell + 3 for cell in range(16)], 1000)
     return (f"deck {name}: check {check(deck)},"
             f" translate {refusal} {len(words)} {digest(output)},"
-            f" listing {len(text)} {digest(buffer)},"
-            f" lines {run.refusal} {run.lines} {run.clocks} {run.acc} {run.flags}"
+            f" listing {len(text)} {digest(buffer)}, {report_lines(deck, 1000)}")
+
+
+def report_lines(deck, asked):
+    run = run_lines(deck, [7 * cell + 3 for cell in range(16)], asked)
+    return (f"lines {run.refusal} {run.lines} {run.clocks} {run.acc} {run.flags}"
             f" {run.position} {run.pc} {digest(run.cells)}")
+
+
+# Decks by rule, as crates/vectors/src/generated.rt has them.
+
+
+def nops(line_count, last):
+    """NOP lines after one label at line 0; the last line has this operation."""
+    lines = [(27, 0, 0)] * (line_count - 1) + [(last, 0 if last == 27 else 3, 0)]
+    return deck_of([0], lines)
+
+
+def mixed(number):
+    """Four labels and 64 lines, in which all operations come up."""
+    labels = [(label * 13 + number * 7 + 5) % 64 for label in range(4)]
+    return deck_of(labels, [mixed_line(line, number) for line in range(64)])
+
+
+def mixed_line(line, number):
+    operation = (line * 11 + number * 7) % 28
+    if operation <= 15:
+        return operation, (line + number) % 2, (line * 5 + number * 3) % 16
+    if operation <= 23:
+        return operation, 0, (line * 37 + number * 91) % 256
+    if operation == 27:
+        return operation, 0, 0
+    second = 0 if operation == 24 else (line * 3 + number) % 4
+    return operation, second, (line + number) % 4
+
+
+SMALL = {
+    "of no lines": "00 00 00",
+    "of no bytes": "",
+    "of 257 lines": "00 01 01",
+    "without its labels": "02 00 00 00",
+    "without its count": "01 00 00 01",
+    "without its records": "00 01 00 1B 00",
+    "with a byte more": "00 01 00 1B 00 00 00",
+    "with a label past the lines": "01 01 00 01 00 1B 00 00",
+    "with operation 28": "00 01 00 1C 00 00",
+    "with a second byte 2": "00 01 00 00 02 10",
+    "with cell 16": "00 01 00 00 01 10",
+    "with label K": "01 00 00 01 00 18 00 01",
+    "with a NOP 1": "00 01 00 1B 00 01",
+}
+
+EXAMPLE_DECK = bytes.fromhex("01 01 00 03 00 13 00 03 11 00 01 1A 03 00")
+
+
+def print_vectors():
+    for name, text in SMALL.items():
+        print(report(name, bytes.fromhex(text)))
+    print(report("of 256 NOPs", nops(256, 27)))
+    print(report("of 254 NOPs and a jump unless Z", nops(255, 26)))
+    print(report("of 255 NOPs and a jump unless Z", nops(256, 26)))
+    for number in range(12):
+        print(report("mixed", mixed(number)))
+    print(report("example", EXAMPLE_DECK))
+    print_limits(EXAMPLE_DECK)
+
+
+def print_limits(deck):
+    for room in 4, 3:
+        output = [65535] * room
+        refusal, words = translate(deck, room)
+        output[:len(words)] = words
+        print(f"output of {room}: translate {refusal} {len(words)} {digest(output)}")
+    for count in 15, 16, 17:
+        run = run_lines(deck, [1] * count, 1000)
+        print(f"cells {count}: lines {run.refusal} {run.lines} {run.clocks} {digest(run.cells)}")
+    for asked in range(9):
+        print(f"asked {asked}, {report_lines(deck, asked)}")
 
 
 if __name__ == "__main__":

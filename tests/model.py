@@ -1,7 +1,6 @@
 """An independent model of document 01's words, arithmetic unit, clock table,
-clock, instruction and run, written from the documents and not from the code. It
-writes what the program `vectors` must print:
-`python3 tests/model.py > crates/vectors/stdout`.
+clock, instruction and run, written from the documents and not from the code.
+tests/decks.py has the decks, and tests/vectors.py writes what `vectors` must print.
 """
 
 import random
@@ -685,10 +684,13 @@ def print_digests():
     print(f"digest of encode: {digest(encoder_numbers())}")
 
 
-if __name__ == "__main__":
+def hold():
     hold_to_the_document()
     hold_to_the_programs()
     hold_three_clocks_to_one_instruction()
+
+
+def print_vectors():
     print_numbers()
     print_unit_refusals()
     print_decoder_refusals()

@@ -1,8 +1,10 @@
-// Document 01's numbers, 003's test programs, the core's refusals and digests of its answers, each by a call of the core. The crate's file `stdout`
+// Document 01's numbers, 003's test programs, decks, refusals and digests of answers, each by a call of the libraries. The crate's file `stdout`
 // holds what an independent model of document 01 prints.
 mod calls;
+mod decks;
 mod digests;
 mod fold;
+mod generated;
 mod numbers;
 mod programs;
 mod refusals;
@@ -20,4 +22,5 @@ fn main() {
     calls::print_rows();
     calls::print_calls();
     states::print_state_digests();
+    decks::print_decks();
 }
