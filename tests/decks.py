@@ -211,6 +211,14 @@ def listing(deck):
 # ---------------------------------------------------------------- lines and clocks
 
 
+def listing_in(deck, room):
+    """The text for an output of so many bytes. That a shorter one gets 9 is the
+    project's reading; document 01 has no number for it.
+    """
+    text = listing(deck)
+    return (9, b"") if room < len(text) else (0, text)
+
+
 def agree(deck, cells, asked):
     """The translated image, freshly loaded and clocked for the clocks that the
     line runner reports, ends where the lines end.
@@ -562,12 +570,13 @@ def report(name, deck):
     output = [65535] * 300
     refusal, words = translate(deck, len(output))
     output[:len(words)] = words
-    text = listing(deck)
+    listing_refusal, text = listing_in(deck, 2000)
     buffer = [255] * 2000
     buffer[:len(text)] = text
     return (f"deck {name}: check {check(deck)},"
             f" translate {refusal} {len(words)} {digest(output)},"
-            f" listing {len(text)} {digest(buffer)}, {report_lines(deck, 1000)}")
+            f" listing {listing_refusal} {len(text)} {digest(buffer)},"
+            f" {report_lines(deck, 1000)}")
 
 
 def report_lines(deck, asked):
@@ -617,7 +626,22 @@ SMALL = {
     "with cell 16": "00 01 00 00 01 10",
     "with label K": "01 00 00 01 00 18 00 01",
     "with a NOP 1": "00 01 00 1B 00 01",
+    "with a label at line 256": "01 00 01 01 00 1B 00 00",
+    "with I and a second byte 1": "00 01 00 10 01 00",
+    "with GOTO and a second byte 1": "01 00 00 01 00 18 01 00",
+    "with jump if flag 4": "01 00 00 01 00 19 04 00",
+    "with jump unless flag 4": "01 00 00 01 00 1A 04 00",
+    "with NOP and a second byte 1": "00 01 00 1B 01 00",
+    "with 4 and 5": "01 01 00 01 00 1C 00 00",
+    "with 5, 6 and 7": "00 01 00 1C FF FF",
+    "with 6 and 7": "00 01 00 1B 01 01",
+    "with 7, then 5": "00 02 00 1B 00 01 1C 00 00",
+    "with 2 and 4": "01 01 00 01 00 1B 00 00 00",
+    "with 3 and 2": "00 01 01" + "00" * 997,
 }
+
+# 255 labels, all at line 0, and one line, a GOTO to the last of them.
+MANY_LABELS = deck_of([0] * 255, [(24, 0, 254)])
 
 EXAMPLE_DECK = bytes.fromhex("01 01 00 03 00 13 00 03 11 00 01 1A 03 00")
 
@@ -625,26 +649,52 @@ EXAMPLE_DECK = bytes.fromhex("01 01 00 03 00 13 00 03 11 00 01 1A 03 00")
 def print_vectors():
     for name, text in SMALL.items():
         print(report(name, bytes.fromhex(text)))
+    print(report("of 255 labels", MANY_LABELS))
+    print_asked(MANY_LABELS, 70000)
     print(report("of 256 NOPs", nops(256, 27)))
     print(report("of 254 NOPs and a jump unless Z", nops(255, 26)))
-    print(report("of 255 NOPs and a jump unless Z", nops(256, 26)))
+    over = nops(256, 26)
+    print(report("of 255 NOPs and a jump unless Z", over))
+    print_room(over, 3)
+    print_cells(over, 15)
     for number in range(12):
         print(report("mixed", mixed(number)))
     print(report("example", EXAMPLE_DECK))
     print_limits(EXAMPLE_DECK)
 
 
+def print_room(deck, room):
+    output = [65535] * room
+    refusal, words = translate(deck, room)
+    output[:len(words)] = words
+    print(f"output of {room}: translate {refusal} {len(words)} {digest(output)}")
+
+
+def print_cells(deck, count):
+    run = run_lines(deck, [1] * count, 1000)
+    print(f"cells {count}: lines {run.refusal} {run.lines} {run.clocks} {digest(run.cells)}")
+
+
+def print_text(deck, room):
+    refusal, text = listing_in(deck, room)
+    buffer = [255] * room
+    buffer[:len(text)] = text
+    print(f"text of {room}: listing {refusal} {len(text)} {digest(buffer)}")
+
+
+def print_asked(deck, asked):
+    print(f"asked {asked}, {report_lines(deck, asked)}")
+
+
 def print_limits(deck):
     for room in 4, 3:
-        output = [65535] * room
-        refusal, words = translate(deck, room)
-        output[:len(words)] = words
-        print(f"output of {room}: translate {refusal} {len(words)} {digest(output)}")
+        print_room(deck, room)
     for count in 15, 16, 17:
-        run = run_lines(deck, [1] * count, 1000)
-        print(f"cells {count}: lines {run.refusal} {run.lines} {run.clocks} {digest(run.cells)}")
-    for asked in range(9):
-        print(f"asked {asked}, {report_lines(deck, asked)}")
+        print_cells(deck, count)
+    for room in 36, 35:
+        print_text(deck, room)
+    for asked in (*range(9), 2**32 - 1):
+        print_asked(deck, asked)
 
 
 if __name__ == "__main__":

@@ -66,7 +66,7 @@ deckRefusal deck = firstBroken (deckChecks deck)
 abbrev pub CheckPromise : List ℕ → ℕ → Type 0
 CheckPromise deck answer = answer ≡ deckRefusal deck
 
--- a line that is read, by its number and values
+-- For private contracts, here and below: a line that is read, by its number and values.
 abbrev pub lineNumberAndValues : Line → NumberAndValues Operation
 lineNumberAndValues (Line.Accepted operation) = record { number = accepted; values = operation ∷ [] }
 lineNumberAndValues (Line.Refused number) = record { number = number; values = [] }
@@ -83,7 +83,7 @@ recordRead deck operation second operand =
 unfoldable pub lineRefusal : List ℕ → ℕ → ℕ
 lineRefusal deck line = firstBroken (checksOfLine deck line)
 
--- what the layout checks leave: the lines are at most 256, and the deck ends where they end
+-- For private contracts: what the layout checks leave. The lines are at most 256, and the deck ends where they end.
 pub record Complete (deck : List ℕ) : Type 0 where
   pub few : lineCount deck ≤ 256
   pub ends : length deck ≡ recordAt deck (lineCount deck)

@@ -28,7 +28,7 @@ pub record LineState : Type 0 where
 abbrev pub lineState : ℕ → Visible → LineState
 lineState position sees = record { position = position; sees = sees }
 
--- what the code's registers and the cells are to the rules
+-- For private contracts: what the code's registers and the cells are to the rules.
 abbrev pub seen : Registers → List ℕ → Visible
 seen registers cells = record { acc = registers .acc; sr = registers .sr; cells = cells }
 
@@ -68,7 +68,7 @@ abbrev pub stepped : Operation → LineState → LineState
 stepped operation s =
     record { position = lineNext operation (s .position) (s .sees .sr); sees = lineEffect operation (s .sees) }
 
--- One line by the rules. Past the last line nothing more happens, at no cost; so a run of n lines is n of these, "fewer if the run passes the last line".
+-- One line by the rules. Past the last line nothing more happens, at no cost; so a run of n lines is n of these, also where it passes the last line before.
 unfoldable pub lineStep : Program → LineState → LineState
 lineStep p s = cond (running p s) (stepped (p .line (s .position)) s) s
 
@@ -93,7 +93,7 @@ linesOf p asked s = total (lineTally p) (lineStep p) asked s
 abbrev pub clocksOf : Program → ℕ → LineState → ℕ
 clocksOf p asked s = total (lineCost p) (lineStep p) asked s
 
--- what a run that is not refused reaches and counts
+-- For a private function's contract: what a run that is not refused reaches and counts.
 abbrev pub Reaches : ℕ → List ℕ → List ℕ → Reached → List ℕ → Type 0
 Reaches asked deck cells r cells' =
     (lineState (r .position) (seen (r .registers) cells') ≡ afterLines (program deck) asked (atStart cells))

@@ -59,7 +59,7 @@ listingOf number words =
 abbrev pub listingText : List ℕ → List ℕ
 listingText deck = listingOf (deckRefusal deck) (image (program deck))
 
--- Document 01 has no number for a text longer than the room that is lent: 9 is our reading (docs/DECISIONS.md).
+-- Document 01 has no number for a text longer than the room that is lent: 9 is our reading (docs/DECISIONS.md, 34).
 abbrev pub listingRefusal : ℕ → ℕ → ℕ
 listingRefusal count room = firstBroken (check (ltb room count) outputTooShort ∷ [])
 

@@ -65,7 +65,7 @@ lookedUp deck label =
     (record { number = accepted; values = labelLine deck label ∷ [] })
     (record { number = operandNotAllowed; values = [] })
 
--- What the table allows a line to be: each field within the bits that its words have for it,
+-- For private contracts: what the table allows a line to be. Each field is within the bits that its words have for it,
 abbrev pub Fits : Operation → Type 0
 Fits (M d mode cell) = (d < 2) × (mode < 16) × (cell .0 < 16)
 Fits (I mode immediate) = (mode < 8) × (immediate < 256)

@@ -21,7 +21,7 @@ translateRefusal deck room =
 abbrev pub translatedAs : ℕ → ℕ → Translated
 translatedAs number count = record { refusal = number; words = cond (eqb number accepted) count 0 }
 
--- the output with these items from a place on
+-- For private contracts: the output with these items from a place on.
 abbrev pub overwritten : ℕ → List ℕ → List ℕ → List ℕ
 overwritten place items output = take place output ++ items ++ drop (place + length items) output
 

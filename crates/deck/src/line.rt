@@ -112,7 +112,7 @@ pub(crate) fn read_line(deck: &[u8], line: u16) -> Line
     read(deck, deck[place], deck[place + 1], deck[place + 2])
 }
 
-// A line of an accepted deck: none of them is refused.
+// A line of an accepted deck: none of them is refused, so the `else` is never taken.
 pub(crate) fn operation_at(deck: &[u8], line: u16) -> Operation
     requires { ⌜ (deckRefusal (now deck) ≡ accepted) × (line < lineCount (now deck)) ⌝ }
     ensures { λ r. ⌜ r ≡ operationAt (now (deck .entry)) line ⌝ }

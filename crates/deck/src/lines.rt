@@ -1,4 +1,4 @@
-// The line runner: an accepted deck run by the line rules, which know no words and no addresses.
+// The line runner: an accepted deck run by the line rules, which speak of lines alone. The cost and, at the end, PC are counted beside them.
 ghost use mathlib.Core.Path.{_≡_};
 ghost use mathlib.Core.Bool.{cond};
 ghost use Prim.Native.Nat.{_+_, _*_, _≤_, _<_};

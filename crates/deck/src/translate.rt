@@ -65,16 +65,16 @@ fn write_line(deck: &[u8], line: u16, here: u16, output: &mut [u16]) -> u16
         Operation::I { mode, immediate } => {
             write(Instruction::I { mode, immediate }, here, output)
         }
-        Operation::Goto { line } => {
-            let target = target_of(deck, line);
+        Operation::Goto { line: to } => {
+            let target = target_of(deck, to);
             write(Instruction::Goto { target }, here, output)
         }
-        Operation::JumpIf { flag, line } => {
-            let target = target_of(deck, line);
+        Operation::JumpIf { flag, line: to } => {
+            let target = target_of(deck, to);
             write(Instruction::JumpIf { flag, target }, here, output)
         }
-        Operation::JumpUnless { flag, line } => {
-            let target = target_of(deck, line);
+        Operation::JumpUnless { flag, line: to } => {
+            let target = target_of(deck, to);
             let skip = skip_target(here);
             let second = write(Instruction::JumpIf { flag, target: skip }, here, output);
             write(Instruction::Goto { target }, second, output)

@@ -16,6 +16,8 @@ use deck::translate::translate;
 pub(crate) fn print_decks() {
     print_small();
     print_refused();
+    print_ordered();
+    print_labels();
     print_top();
     print_mixed();
     print_example(b"\x01\x01\x00\x03\x00\x13\x00\x03\x11\x00\x01\x1A\x03\x00");
@@ -42,6 +44,45 @@ fn print_refused() {
     print_deck(b"with cell 16", b"\x00\x01\x00\x00\x01\x10");
     print_deck(b"with label K", b"\x01\x00\x00\x01\x00\x18\x00\x01");
     print_deck(b"with a NOP 1", b"\x00\x01\x00\x1B\x00\x01");
+    print_deck(
+        b"with a label at line 256",
+        b"\x01\x00\x01\x01\x00\x1B\x00\x00",
+    );
+    print_deck(b"with I and a second byte 1", b"\x00\x01\x00\x10\x01\x00");
+    print_deck(
+        b"with GOTO and a second byte 1",
+        b"\x01\x00\x00\x01\x00\x18\x01\x00",
+    );
+    print_deck(b"with jump if flag 4", b"\x01\x00\x00\x01\x00\x19\x04\x00");
+    print_deck(
+        b"with jump unless flag 4",
+        b"\x01\x00\x00\x01\x00\x1A\x04\x00",
+    );
+    print_deck(b"with NOP and a second byte 1", b"\x00\x01\x00\x1B\x01\x00");
+}
+
+// Several rules broken at once: the first of them in document 01's order gives its number.
+fn print_ordered() {
+    print_deck(b"with 4 and 5", b"\x01\x01\x00\x01\x00\x1C\x00\x00");
+    print_deck(b"with 5, 6 and 7", b"\x00\x01\x00\x1C\xFF\xFF");
+    print_deck(b"with 6 and 7", b"\x00\x01\x00\x1B\x01\x01");
+    print_deck(b"with 7, then 5", b"\x00\x02\x00\x1B\x00\x01\x1C\x00\x00");
+    print_deck(b"with 2 and 4", b"\x01\x01\x00\x01\x00\x1B\x00\x00\x00");
+    let mut long = [0u8; 1000];
+    long[1] = 1;
+    long[2] = 1;
+    print_deck(b"with 3 and 2", &long);
+}
+
+// 255 labels, and one line that goes to the last of them.
+fn print_labels() {
+    let mut deck = [0u8; 516];
+    deck[0] = 255;
+    deck[511] = 1;
+    deck[513] = 24;
+    deck[515] = 254;
+    print_deck(b"of 255 labels", &deck);
+    print_asked(&deck, 70_000);
 }
 
 // "One label, at line 0. 256 NOP lines: accepted. 254, then one operation 26 on Z: accepted, word 254 is 700. 255, then one operation 26: 8."
@@ -55,6 +96,15 @@ fn print_top() {
     let mut over = [0u8; 773];
     fill_nops(&mut over, 256, 26);
     print_deck(b"of 255 NOPs and a jump unless Z", &over);
+    print_beside(&over);
+}
+
+// 9 and 12 come after the refusals of a deck.
+fn print_beside(deck: &[u8]) {
+    let mut three = [0xFFFFu16; 3];
+    print_room(deck, &mut three);
+    let mut fifteen = [1u8; 15];
+    print_cells(deck, &mut fifteen);
 }
 
 // Decks of 64 lines with all operations.
@@ -96,6 +146,8 @@ fn print_listing(deck: &[u8]) {
     let mut text = [0xFFu8; 2000];
     let listed = listing(deck, &mut text);
     print(b", listing ");
+    print_decimal(listed.refusal);
+    print(b" ");
     print_long(listed.count as u64);
     print(b" ");
     print_hex(digest_of_bytes(&text), 8);
@@ -148,7 +200,7 @@ fn print_reached(run: LinesRun) {
     print_decimal(pc.0);
 }
 
-// Document 01's example with an output as long as it wants and one word shorter, with sixteen cells, fewer and more, and line by line.
+// Document 01's example with outputs as long as it wants and one item shorter, with sixteen cells, fewer and more, and line by line.
 fn print_example(deck: &[u8]) {
     print_deck(b"example", deck);
     let mut four = [0xFFFFu16; 4];
@@ -161,7 +213,12 @@ fn print_example(deck: &[u8]) {
     print_cells(deck, &mut sixteen);
     let mut seventeen = [1u8; 17];
     print_cells(deck, &mut seventeen);
+    let mut fits = [0xFFu8; 36];
+    print_text(deck, &mut fits);
+    let mut short = [0xFFu8; 35];
+    print_text(deck, &mut short);
     print_each(deck);
+    print_asked(deck, 0xFFFF_FFFF);
 }
 
 fn print_each(deck: &[u8]) {
@@ -195,6 +252,19 @@ fn print_cells(deck: &[u8], cells: &mut [u8]) {
     print_long(run.clocks);
     print(b" ");
     print_hex(digest_of_bytes(cells), 8);
+    print(b"\n");
+}
+
+fn print_text(deck: &[u8], text: &mut [u8]) {
+    let listed = listing(deck, text);
+    print(b"text of ");
+    print_long(text.len() as u64);
+    print(b": listing ");
+    print_decimal(listed.refusal);
+    print(b" ");
+    print_long(listed.count as u64);
+    print(b" ");
+    print_hex(digest_of_bytes(text), 8);
     print(b"\n");
 }
 
