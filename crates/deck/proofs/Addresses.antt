@@ -71,7 +71,7 @@ module _ (p : Program) where
   code-length here (Operation.JumpUnless f line) = refl
   code-length here Operation.Nop = refl
 
-  pub line-length : (line : ℕ) → length (lineWords p line) ≡ words (p .line line)
+  line-length : (line : ℕ) → length (lineWords p line) ≡ words (p .line line)
   line-length line = code-length (address p line) (p .line line)
 
   pub image-length : (n : ℕ) → length (imageUpTo p n) ≡ address p n

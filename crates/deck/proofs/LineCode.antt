@@ -26,7 +26,7 @@ module _ (deck : List ℕ) (e : deckRefusal deck ≡ accepted) (line : ℕ) (h :
   ends : here + words (operationAt deck line) ≤ totalWords (program deck)
   ends = rw at (address-ends (program deck) line (lineCount deck) h)
 
-  pub here-lt : here < 256
+  here-lt : here < 256
   here-lt = rw at (address-lt (program deck) line h (sound deck e .small))
 
   -- what the first word of a line asks for

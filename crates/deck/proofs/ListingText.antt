@@ -15,7 +15,7 @@ use Rattle.deck.specs.Translate.{overwritten, startingWith}
 use Rattle.deck.proofs.Writing.{one, same-length, more, from-start, more-at-start}
 
 -- `more`, at a place that is known as a number
-pub more-at : (place n : ℕ) (items others output : List ℕ) → length items ≡ n → place + n ≤ length output
+more-at : (place n : ℕ) (items others output : List ℕ) → length items ≡ n → place + n ≤ length output
     → overwritten (place + n) others (overwritten place items output) ≡ overwritten place (items ++ others) output
 more-at place n items others output e h =
     let inside : place + length items ≤ length output = omega arith in

@@ -19,7 +19,7 @@ use Rattle.deck.specs.Deck.{layoutChecks, each, checksOfLabel, labelChec
 abbrev pub orElse : ℕ → ℕ → ℕ
 orElse number after = cond (eqb number accepted) after number
 
-pub numbered-append : (cs ds : List Check) → Numbered cs → Numbered ds → Numbered (cs ++ ds)
+numbered-append : (cs ds : List Check) → Numbered cs → Numbered ds → Numbered (cs ++ ds)
 numbered-append [] ds s t = t
 numbered-append (c ∷ cs) ds s t = (s .0, numbered-append cs ds (s .1) t)
 
@@ -32,7 +32,7 @@ pub both : (x y : ℕ) → cond (eqb x accepted) y x ≡ accepted → (x ≡ acc
 both x y e = both-by x y (eqb x accepted) refl e
 
 module _ (checks : ℕ → List Check) (numbered : (i : ℕ) → Numbered (checks i)) where
-  pub numbered-each : (n : ℕ) → Numbered (each checks n)
+  numbered-each : (n : ℕ) → Numbered (each checks n)
   numbered-each zero = tt
   numbered-each (suc n) = numbered-append (each checks n) (checks n) (numbered-each n) (numbered n)
 

@@ -16,7 +16,7 @@ use Rattle.deck.specs.declared.label.Label.{Label}
 use Rattle.deck.proofs.LineCode.{second}
 
 -- a jump is operation 24, 25 or 26
-pub by-jump : (P : ℕ → Type 0) → P 24 → P 25 → P 26 → (operation : ℕ) → 24 ≤ operation → operation < 27 → P operation
+by-jump : (P : ℕ → Type 0) → P 24 → P 25 → P 26 → (operation : ℕ) → 24 ≤ operation → operation < 27 → P operation
 by-jump P p q r operation h k = go (eqb operation 24) (eqb operation 25) refl refl
   where
     go : (t u : Bool) → eqb operation 24 ≡ t → eqb operation 25 ≡ u → P operation
