@@ -1,7 +1,7 @@
 // The line runner: an accepted deck run by the line rules, which speak of lines alone. The cost and, at the end, PC are counted beside them.
 ghost use mathlib.Core.Path.{_≡_};
 ghost use mathlib.Core.Bool.{cond};
-ghost use Prim.Native.Nat.{_+_, _*_, _≤_, _<_};
+ghost use Prim.Native.Nat.{_*_, _<_};
 ghost use lib.ListN.{length};
 ghost use Rattle.core.specs.Refusal.{accepted};
 ghost use Rattle.core.specs.Rule.{Act, effect};
