@@ -9,6 +9,7 @@ pub mod Finite
 pub mod Flags
 pub mod Iteration
 pub mod Kind
+pub mod Loaded
 pub mod Order
 pub mod Overflow
 pub mod Programs

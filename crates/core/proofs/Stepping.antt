@@ -49,7 +49,7 @@ module _ (image : List ℕ) where
   accepted-after (suc n) s r = accepted-after n (clock (memoryOf image) s) (still-accepted s r)
 
   -- where a call may go on, nothing is refused
-  fine : (s : State) → Accepted s → clockRefusal (s .machine) image (length (s .cells)) ≡ accepted
+  pub fine : (s : State) → Accepted s → clockRefusal (s .machine) image (length (s .cells)) ≡ accepted
   unfolding clockRefusal
   fine s r =
       let f = r .fit .flags in

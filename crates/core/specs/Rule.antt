@@ -3,10 +3,12 @@
 use Prim.Native.Nat.{ℕ}
 use mathlib.Core.Bool.{cond}
 use mathlib.Core.List.{List}
+use mathlib.Core.Path.{_≡_}
+use mathlib.Core.Logic.{_≢_}
 use lib.Dec.{eqb}
-use lib.ListN.{getD, set}
+use lib.ListN.{length, getD, set}
 use Rattle.core.specs.Unit.{plus, unitResult, unitFlags}
-use Rattle.core.specs.Word.{programAddress, flag}
+use Rattle.core.specs.Word.{programAddress, dataAddress, flag}
 use Rattle.core.specs.declared.address.ProgramAddress.{ProgramAddress}
 use Rattle.core.specs.declared.address.DataAddress.{DataAddress}
 use Rattle.core.specs.declared.machine.Machine.{Machine}
@@ -71,3 +73,9 @@ next (Go target) machine = target
 next (OnCell d mode cell) machine = stepped (machine .pc)
 next (GoIf f target) machine = cond (flag f (machine .sr)) target (stepped (machine .pc))
 next (OnImmediate mode immediate) machine = stepped (machine .pc)
+
+-- cells of which one at most has changed
+pub record OneCell (before after : List ℕ) : Type 0 where
+  pub cell : ℕ
+  pub as-many : length after ≡ length before
+  pub others : (place : ℕ) → place ≢ cell → cellAt (dataAddress place) after ≡ cellAt (dataAddress place) before

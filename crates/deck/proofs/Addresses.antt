@@ -3,13 +3,14 @@
 use Prim.Native.Nat.{ℕ, zero, suc, _+_, _≤_, _<_}
 use mathlib.Core.Bool.{Bool, true, false}
 use mathlib.Core.List.{_++_, map}
-use mathlib.Core.Path.{_≡_, refl}
+use mathlib.Core.Path.{_≡_, refl, _∙_, ap, sym}
 use native.Mathlib.Nat.{not-suc-le-zero, le-trans, le-refl, le-add-right}
 use native.Mathlib.Numerals.{add-one}
 use native.Mathlib.Omega.{arith}
 use borrow.Author.Tests.{ltb-true, ltb-false}
 use lib.Dec.{ltb}
-use lib.ListN.{length, length-append}
+use lib.ListN.{length, getD, length-append, List·getD-append}
+use lib.Seq.{getD-append-add}
 use Rattle.core.specs.Word.{wordOf}
 use Rattle.deck.specs.Image.{address, totalWords, instructionsOf, lineWords, imageUpTo}
 use Rattle.deck.specs.Operation.{words, Program}
@@ -82,3 +83,20 @@ module _ (p : Program) where
   pub image-next : (line : ℕ) → imageUpTo p (line + 1) ≡ imageUpTo p line ++ lineWords p line
   unfolding imageUpTo
   image-next line = rw add-one
+
+  -- word j of a line stands at its address plus j, whatever an entry past the end reads as
+  word-by : (line n j d : ℕ) (t : Bool) → ltb line n ≡ t → line < suc n → j < words (p .line line)
+      → (line < n → getD (imageUpTo p n) (address p line + j) d ≡ getD (lineWords p line) j d)
+      → getD (imageUpTo p (suc n)) (address p line + j) d ≡ getD (lineWords p line) j d
+  unfolding imageUpTo
+  word-by line n j d true q h k before =
+      let inside : address p line + j < length (imageUpTo p n) = rw (image-length n) (omega (arith, address-ends line n (ltb-true line n q))) in
+      List·getD-append (imageUpTo p n) (lineWords p n) d (address p line + j) inside ∙ before (ltb-true line n q)
+  word-by line n j d false q h k before =
+      let b = ltb-false line n q in
+      let same : line ≡ n = omega arith in
+      rw same (ap (λ (k : ℕ). getD (imageUpTo p n ++ lineWords p n) (k + j) d) (sym (image-length n)) ∙ getD-append-add (imageUpTo p n) (lineWords p n) j d)
+
+  pub word-at : (line n j d : ℕ) → line < n → j < words (p .line line) → getD (imageUpTo p n) (address p line + j) d ≡ getD (lineWords p line) j d
+  word-at line zero j d h k = absurd (not-suc-le-zero h)
+  word-at line (suc n) j d h k = word-by line n j d (ltb line n) refl h k (λ b. word-at line n j d b k)

@@ -1,8 +1,11 @@
 pub mod Addresses
+pub mod Agreement
 pub mod Determined
+pub mod Instructions
 pub mod LineCode
 pub mod ListingDeck
 pub mod ListingText
+pub mod OneLine
 pub mod Parts
 pub mod Reading
 pub mod Rows

@@ -1,29 +1,30 @@
 -- What the loop of the line runner goes by: one line more is the last one, and a run that has passed the last line stays as it is and costs nothing.
 -- Assumes nothing.
-use Prim.Native.Nat.{ℕ, _+_, _-_, _*_, _≤_, _<_}
-use mathlib.Core.Path.{_≡_, refl, sym, ap, _∙_}
+use Prim.Native.Nat.{_-_, ℕ, _+_, _*_, _<_, _≤_}
+use mathlib.Core.Bool.{Bool, true, false}
+use mathlib.Core.Path.{sym, _≡_, ap, _∙_, refl}
 use native.Mathlib.Nat.{add-zero}
 use native.Mathlib.Numerals.{add-one}
 use native.Mathlib.Omega.{arith}
 use borrow.Author.Tests.{lt-ltb, le-ltb}
-use lib.ListN.{length}
+use lib.Dec.{ltb}
 use Rattle.core.proofs.Choice.{either}
-use Rattle.core.proofs.Effects.{effect-flags, effect-cells}
+use Rattle.core.proofs.Effects.{effect-flags, effect-one, pass-leaves, none-changed}
 use Rattle.core.proofs.Iteration.{iterate-last, total-last, iterate-still, total-still, iterate-add, total-add}
-use Rattle.core.specs.Rule.{Act, Visible}
+use Rattle.core.specs.Rule.{Act, Visible, OneCell, effect}
 use Rattle.core.specs.Word.{flag}
-use Rattle.deck.specs.Lines.{LineState, lineEffect, lineNext, executed, stepped, lineStep, lineCost, lineTally, afterLines, linesOf, clocksOf}
+use Rattle.deck.specs.Lines.{LineState, lineEffect, lineNext, executed, afterLine, lineStep, lineCost, lineTally, afterLines, linesOf, clocksOf, lineExecuted}
 use Rattle.deck.specs.Operation.{Program, Lands}
 use Rattle.deck.specs.declared.operation.Operation.{Operation}
 
 module _ (p : Program) (s : LineState) where
   module _ (h : s .position < p .count) where
-    is-stepped : lineStep p s ≡ stepped (p .line (s .position)) s
+    is-stepped : lineStep p s ≡ afterLine (p .line (s .position)) s
     unfolding lineStep
     is-stepped = rw (lt-ltb (s .position) (p .count) h)
 
     its-cost : lineCost p s ≡ 3 * executed (p .line (s .position)) (s .sees .sr)
-    unfolding lineCost
+    unfolding lineExecuted
     its-cost = rw (lt-ltb (s .position) (p .count) h)
 
     its-tally : lineTally p s ≡ 1
@@ -36,7 +37,7 @@ module _ (p : Program) (s : LineState) where
     still = rw (le-ltb (s .position) (p .count) h)
 
     no-cost : lineCost p s ≡ 0
-    unfolding lineCost
+    unfolding lineExecuted
     no-cost = rw (le-ltb (s .position) (p .count) h)
 
     no-tally : lineTally p s ≡ 0
@@ -47,7 +48,7 @@ module _ (p : Program) (s : LineState) where
 module _ (p : Program) (start : LineState) (n : ℕ) (s : LineState) (at : s ≡ afterLines p n start) where
   -- with a line there, one more is run
   module _ (h : s .position < p .count) where
-    pub goes-on : stepped (p .line (s .position)) s ≡ afterLines p (n + 1) start
+    pub goes-on : afterLine (p .line (s .position)) s ≡ afterLines p (n + 1) start
     goes-on = sym (is-stepped p s h) ∙ rw (add-one, iterate-last (lineStep p) n start) (ap (lineStep p) at)
 
     pub one-line-more : (lines : ℕ) → lines ≡ linesOf p n start → lines + 1 ≡ linesOf p (n + 1) start
@@ -99,19 +100,34 @@ lands-next (Operation.JumpUnless f line) count position sr l h =
     either (λ (k : ℕ). k ≤ count) (flag f sr) (position + 1) line (omega arith) (omega arith)
 lands-next Operation.Nop count position sr l h = omega arith
 
--- and it keeps four bits of flags and its cells
-pub line-flags : (operation : Operation) (v : Visible) → v .sr < 16 → lineEffect operation v .sr < 16
-line-flags (Operation.M d mode cell) v h = effect-flags (Act.OnCell d mode cell) v h
-line-flags (Operation.I mode immediate) v h = effect-flags (Act.OnImmediate mode immediate) v h
-line-flags (Operation.Goto line) v h = h
-line-flags (Operation.JumpIf f line) v h = h
-line-flags (Operation.JumpUnless f line) v h = h
-line-flags Operation.Nop v h = h
+-- what a line does to what is seen is an act: a jump passes
+abbrev acting : Operation → Act
+acting (Operation.M d mode cell) = Act.OnCell d mode cell
+acting (Operation.I mode immediate) = Act.OnImmediate mode immediate
+acting (Operation.Goto line) = Act.Pass
+acting (Operation.JumpIf f line) = Act.Pass
+acting (Operation.JumpUnless f line) = Act.Pass
+acting Operation.Nop = Act.Pass
 
-pub line-cells : (operation : Operation) (v : Visible) → length (lineEffect operation v .cells) ≡ length (v .cells)
-line-cells (Operation.M d mode cell) v = effect-cells (Act.OnCell d mode cell) v
-line-cells (Operation.I mode immediate) v = effect-cells (Act.OnImmediate mode immediate) v
-line-cells (Operation.Goto line) v = refl
-line-cells (Operation.JumpIf f line) v = refl
-line-cells (Operation.JumpUnless f line) v = refl
-line-cells Operation.Nop v = refl
+acts : (operation : Operation) (v : Visible) → effect (acting operation) v ≡ lineEffect operation v
+acts (Operation.M d mode cell) v = refl
+acts (Operation.I mode immediate) v = refl
+acts (Operation.Goto line) v = pass-leaves v
+acts (Operation.JumpIf f line) v = pass-leaves v
+acts (Operation.JumpUnless f line) v = pass-leaves v
+acts Operation.Nop v = pass-leaves v
+
+-- so it keeps four bits of flags, and changes one cell at most
+pub line-flags : (operation : Operation) (v : Visible) → v .sr < 16 → lineEffect operation v .sr < 16
+line-flags operation v h = rw (acts operation v) at (effect-flags (acting operation) v h)
+
+pub line-one : (operation : Operation) (v : Visible) → OneCell (v .cells) (lineEffect operation v .cells)
+line-one operation v = rw (acts operation v) at (effect-one (acting operation) v)
+
+one-cell-by : (p : Program) (s : LineState) (test : Bool) → ltb (s .position) (p .count) ≡ test → OneCell (s .sees .cells) (lineStep p s .sees .cells)
+unfolding lineStep
+one-cell-by p s true e = rw e (line-one (p .line (s .position)) (s .sees))
+one-cell-by p s false e = rw e (none-changed (s .sees .cells))
+
+pub one-more-cell : (p : Program) (n : ℕ) (start : LineState) → OneCell (afterLines p n start .sees .cells) (afterLines p (n + 1) start .sees .cells)
+one-more-cell p n start = rw (add-one, iterate-last (lineStep p) n start) (one-cell-by p (afterLines p n start) _ refl)

@@ -4,4 +4,5 @@ pub mod Image
 pub mod Deck
 pub mod Translate
 pub mod Lines
+pub mod Agreement
 pub mod Listing

@@ -2,12 +2,12 @@
 -- Assumes nothing.
 use Prim.Native.Nat.{ℕ, _+_, _*_, _≤_}
 use mathlib.Core.Bool.{Bool, cond, not}
-use mathlib.Core.List.{List, [], _∷_, _++_}
+use mathlib.Core.List.{_++_, List, [], _∷_}
 use mathlib.Core.Path.{_≡_}
-use lib.Dec.{eqb, ltb}
+use lib.Dec.{ltb, eqb}
 use lib.ListN.{length}
 use Rattle.core.specs.Iterate.{iterate, total}
-use Rattle.core.specs.Refusal.{accepted, notSixteenCells, check, firstBroken}
+use Rattle.core.specs.Refusal.{accepted, firstBroken, check, notSixteenCells}
 use Rattle.core.specs.Rule.{Act, Visible, effect}
 use Rattle.core.specs.Word.{flag}
 use Rattle.deck.specs.Bytes.{lineCount}
@@ -64,17 +64,21 @@ abbrev pub running : Program → LineState → Bool
 running p s = ltb (s .position) (p .count)
 
 -- one line that is there
-abbrev pub stepped : Operation → LineState → LineState
-stepped operation s =
+abbrev pub afterLine : Operation → LineState → LineState
+afterLine operation s =
     record { position = lineNext operation (s .position) (s .sees .sr); sees = lineEffect operation (s .sees) }
 
 -- One line by the rules. Past the last line nothing more happens, at no cost; so a run of n lines is n of these, also where it passes the last line before.
 unfoldable pub lineStep : Program → LineState → LineState
-lineStep p s = cond (running p s) (stepped (p .line (s .position)) s) s
+lineStep p s = cond (running p s) (afterLine (p .line (s .position)) s) s
+
+-- the words that it executes: none past the last line
+unfoldable pub lineExecuted : Program → LineState → ℕ
+lineExecuted p s = cond (running p s) (executed (p .line (s .position)) (s .sees .sr)) 0
 
 -- "Cost: 3 clocks for each executed word, so operation 26 costs 3 if the flag is 1 and 6 otherwise."
-unfoldable pub lineCost : Program → LineState → ℕ
-lineCost p s = cond (running p s) (3 * executed (p .line (s .position)) (s .sees .sr)) 0
+abbrev pub lineCost : Program → LineState → ℕ
+lineCost p s = 3 * lineExecuted p s
 
 unfoldable pub lineTally : Program → LineState → ℕ
 lineTally p s = cond (running p s) 1 0
@@ -83,7 +87,8 @@ lineTally p s = cond (running p s) 1 0
 abbrev pub atStart : List ℕ → LineState
 atStart cells = lineState 0 (record { acc = 0; sr = 0; cells = cells })
 
--- after so many lines asked for: where the run stands, the lines that it ran, the clocks that they cost
+-- after so many lines asked for: where the run stands, the lines that it ran, the clocks that they cost, the words that they
+-- executed
 abbrev pub afterLines : Program → ℕ → LineState → LineState
 afterLines p asked s = iterate (lineStep p) asked s
 
@@ -92,6 +97,9 @@ linesOf p asked s = total (lineTally p) (lineStep p) asked s
 
 abbrev pub clocksOf : Program → ℕ → LineState → ℕ
 clocksOf p asked s = total (lineCost p) (lineStep p) asked s
+
+abbrev pub wordsExecuted : Program → ℕ → LineState → ℕ
+wordsExecuted p asked s = total (lineExecuted p) (lineStep p) asked s
 
 -- For a private function's contract: what a run that is not refused reaches and counts.
 abbrev pub Reaches : ℕ → List ℕ → List ℕ → Reached → List ℕ → Type 0

@@ -15,7 +15,7 @@ use Rattle.deck.specs.Lines.{lineState, seen, lineEffect, lineNext, exec
 use Rattle.deck.specs.Operation.{operationAt, program}
 use Rattle.deck.specs.declared.lines.Reached.{Reached}
 use Rattle.deck.specs.declared.lines.Registers.{Registers}
-use Rattle.deck.proofs.Runs.{goes-on, one-line-more, clocks-more, stopped, stopped-lines, stopped-clocks, executed-le, lands-next, line-flags, line-cells}
+use Rattle.deck.proofs.Runs.{goes-on, one-line-more, clocks-more, stopped, stopped-lines, stopped-clocks, executed-le, lands-next, line-flags, line-one}
 use Rattle.deck.proofs.Sound.{Sound, sound, line-fits, line-lands}
 use Rattle.deck.proofs.lines.run_accepted.Statement.{statement}
 use Rattle.deck.proofs.lines.run_accepted.Tie as tie
@@ -46,7 +46,7 @@ module _ (deck start : List ℕ) (asked position : ℕ) (registers : Registers) 
         most = omega arith;
         bound = omega (arith, s .bound, cost', executed-le o (registers .sr));
         flags = rw (ap (λ (v : Visible). v .sr) seen') (line-flags o (seen registers cells) (s .flags));
-        sixteen = ap (λ (v : Visible). length (v .cells)) seen' ∙ line-cells o (seen registers cells) ∙ s .sixteen;
+        sixteen = ap (λ (v : Visible). length (v .cells)) seen' ∙ line-one o (seen registers cells) .as-many ∙ s .sixteen;
         at = rw (next', seen') (goes-on (program deck) at-start lines before (s .at) h);
         counted = one-line-more (program deck) at-start lines before (s .at) h lines (s .counted);
         cost = rw cost' (clocks-more (program deck) at-start lines before (s .at) h clocks (s .cost));
