@@ -8,31 +8,27 @@ use mathlib.Core.Path.{_≡_, refl, sym, ap, _∙_}
 use native.Mathlib.Omega.{arith}
 use borrow.Author.Tests.{ltb-true}
 use lib.Dec.{eqb, ltb}
-use lib.ListN.{take, length}
+use lib.ListN.{length}
 use Rattle.core.proofs.Effects.{none-changed}
 use Rattle.core.proofs.Iteration.{total-times, kept-together}
-use Rattle.core.specs.Clock.{clock}
+use Rattle.core.specs.Clock.{clock, RunPromise}
 use Rattle.core.specs.Instruction.{visible}
 use Rattle.core.specs.Machine.{State, memoryOf, state, freshlyLoaded, clockedAs}
 use Rattle.core.specs.Refusal.{accepted}
 use Rattle.core.specs.Rule.{Visible, OneCell}
 use Rattle.core.specs.declared.machine.Clocked.{Clocked}
-use Rattle.deck.specs.Agreement.{Agree, afterClocks, AgreesFromAnyLine, AgreesFromLoad, FunctionsAgree, OneCellALine}
+use Rattle.deck.specs.Agreement.{Agree, afterClocks, AgreesFromAnyLine, AgreesFromLoad, FunctionsAgree, OneCellALine, Same}
 use Rattle.deck.specs.Bytes.{lineCount}
 use Rattle.deck.specs.Deck.{deckRefusal}
 use Rattle.deck.specs.Image.{address, image}
-use Rattle.deck.specs.Lines.{lineState, lineStep, lineCost, lineExecuted, LineState, clocksOf, wordsExecuted, atStart, LinesPromise, afterLines, ranAs, linesOf, linesRefusal}
+use Rattle.deck.specs.Lines.{lineState, lineStep, lineCost, lineExecuted, LineState, clocksOf, wordsExecuted, atStart, LinesPromise, afterLines, linesRefusal}
 use Rattle.deck.specs.Operation.{Program, program, operationAt}
-use Rattle.deck.specs.Translate.{TranslatePromise, translateRefusal, startingWith}
 use Rattle.deck.specs.declared.lines.LinesRun.{LinesRun}
-use Rattle.deck.specs.declared.translate.Translated.{Translated}
-use Rattle.deck.proofs.Addresses.{image-length}
+use Rattle.deck.proofs.Accepted.{lines-as, deck-accepted, image-at-start}
 use Rattle.deck.proofs.Instructions.{line-in-range, image-accepted}
 use Rattle.deck.proofs.OneLine.{after-line}
-use Rattle.deck.proofs.Parts.{both, then-last}
 use Rattle.deck.proofs.Runs.{one-more-cell}
 use Rattle.deck.proofs.Sound.{Sound, line-lands, sound}
-use Rattle.deck.proofs.Writing.{taken}
 
 module _ (deck : List ℕ) (s : Sound deck) where
   abbrev p : Program
@@ -71,38 +67,19 @@ module _ (deck : List ℕ) (s : Sound deck) where
         one-cell = λ k h. one-more-cell p k (atStart cells);
       }
 
--- what the promises say where nothing is refused
-translated-as : (deck output : List ℕ) (translated : Translated) (words : List ℕ) → TranslatePromise deck output translated words → translated .refusal ≡ accepted
-    → (deckRefusal deck ≡ accepted) × (take (translated .words) words ≡ image (program deck))
-unfolding translateRefusal
-translated-as deck output translated words t ok =
+-- the line runner, and a run of the image for the clocks that it reports
+pub runs-agree : (deck cells : List ℕ) (asked : ℕ) → deckRefusal deck ≡ accepted → length cells ≡ 16
+    → (lines : LinesRun) (byLines : List ℕ) → LinesPromise asked deck cells lines byLines
+    → (clocked : Clocked) (byClocks : List ℕ) → RunPromise (lines .clocks) freshlyLoaded (image (program deck)) cells clocked byClocks
+    → Same lines byLines clocked byClocks
+runs-agree deck cells asked ok sixteen lines byLines l clocked byClocks r =
     let p = program deck in
-    let number : translateRefusal deck (length output) ≡ accepted = ap (λ (r : Translated). r .refusal) (sym (t .0)) ∙ ok in
-    let count : translated .words ≡ length (image p) =
-    ap (λ (r : Translated). r .words) (t .0) ∙ rw number (sym (image-length p (lineCount deck))) in
-    let begins : words ≡ startingWith (image p) output = t .1 ∙ rw number in
-    (both _ _ (sym (then-last deck _) ∙ number) .0, rw (count, begins) (taken (image p) output))
-
-lines-as : (asked : ℕ) (deck cells : List ℕ) (lines : LinesRun) (left : List ℕ) → deckRefusal deck ≡ accepted → length cells ≡ 16 → LinesPromise asked deck cells lines left
-    → let p : Program = program deck in
-    let end : LineState = afterLines p asked (atStart cells) in
-    (lines ≡ ranAs p (linesOf p asked (atStart cells)) (clocksOf p asked (atStart cells)) end) × (left ≡ end .sees .cells)
-unfolding linesRefusal
-lines-as asked deck cells lines left ok sixteen l =
-    let number : linesRefusal deck (length cells) ≡ accepted = then-last deck _ ∙ rw (ok, sixteen) in
-    rw number at l
-
--- OF THE FUNCTIONS
-pub functions-agree : FunctionsAgree
-functions-agree deck output cells asked sixteen translated words t ok lines byLines l machine fresh clocked byClocks r =
-    let p = program deck in
-    let a = translated-as deck output translated words t ok in
-    let s = sound deck (a .0) in
-    let b = lines-as asked deck cells lines byLines (a .0) sixteen l in
+    let s = sound deck ok in
+    let b = lines-as asked deck cells lines byLines ok sixteen l in
     let g = from-load deck s cells asked in
     let made : lines .clocks ≡ 3 * wordsExecuted p asked (atStart cells) = ap (λ (x : LinesRun). x .clocks) (b .0) ∙ g .clocks in
     let after : State = afterClocks p (3 * wordsExecuted p asked (atStart cells)) (state freshlyLoaded cells) in
-    let c : (clocked ≡ clockedAs accepted (after .machine)) × (byClocks ≡ after .cells) = rw (fresh, a .1, made, image-accepted deck s cells sixteen) at r in
+    let c : (clocked ≡ clockedAs accepted (after .machine)) × (byClocks ≡ after .cells) = rw (made, image-accepted deck s cells sixteen) at r in
     record {
       both-accepted = (ap (λ (x : LinesRun). x .refusal) (b .0), ap (λ (x : Clocked). x .refusal) (c .0));
       acc = ap (λ (x : Clocked). x .machine .acc) (c .0) ∙ ap (λ (v : Visible). v .acc) (g .agree .sees) ∙ sym (ap (λ (x : LinesRun). x .acc) (b .0));
@@ -111,6 +88,12 @@ functions-agree deck output cells asked sixteen translated words t ok lines byLi
       fetches = ap (λ (x : Clocked). x .machine .stage) (c .0) ∙ g .agree .fetches;
       cells = c .1 ∙ ap (λ (v : Visible). v .cells) (g .agree .sees) ∙ sym (b .1);
     }
+
+-- OF THE FUNCTIONS
+pub functions-agree : FunctionsAgree
+functions-agree deck output cells asked sixteen translated words t ok lines byLines l machine fresh clocked byClocks r =
+    let accepts = deck-accepted deck output translated words t ok in
+    runs-agree deck cells asked accepts sixteen lines byLines l clocked byClocks (rw (fresh, image-at-start deck output translated words t ok) at r)
 
 left-by : (deck cells : List ℕ) (asked : ℕ) (test : Bool) (before after : List ℕ)
     → before ≡ cond test (afterLines (program deck) asked (atStart cells) .sees .cells) cells

@@ -1,3 +1,4 @@
+pub mod Accepted
 pub mod Addresses
 pub mod Agreement
 pub mod Determined

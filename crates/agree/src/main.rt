@@ -1,0 +1,38 @@
+// The agreement, for anyone to see: `agree LINES < DECK` runs so many lines of a deck, clocks its image on the machine, and says whether the two agree.
+mod asked;
+mod report;
+
+use agreement::agree::agree;
+use asked::Asked;
+use asked::read;
+use libc::STDERR_FILENO;
+use libc::STDIN_FILENO;
+use report::report;
+
+// One more than the longest deck; more cannot alter the answer.
+const MOST: usize = 1282;
+
+// Both ways begin with cells of 0.
+fn compare(deck: &[u8], lines: u32) {
+    report(agree(deck, &[0u8; 16], lines));
+}
+
+fn run(lines: u32) {
+    let mut input = [0u8; MOST];
+    let count = io::read_full(STDIN_FILENO, &mut input);
+    compare(&input[..count], lines);
+}
+
+fn main() {
+    let mut digits = [0u8; 10];
+    let count = os::arg(1, &mut digits);
+    match read(&digits[..count]) {
+        Asked::Lines(lines) => run(lines),
+        Asked::Malformed => {
+            io::write_all(
+                STDERR_FILENO,
+                b"usage: agree LINES < DECK, with LINES from 0 to 4294967295\n",
+            );
+        }
+    }
+}

@@ -1,0 +1,4 @@
+pub mod Both
+pub mod Cells
+pub mod Determined
+pub mod Differences

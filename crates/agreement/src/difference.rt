@@ -1,0 +1,120 @@
+// What a run of lines and a run of clocks came to, compared.
+ghost use mathlib.Core.Path.{_≡_};
+ghost use mathlib.Core.Bool.{cond};
+ghost use lib.ListN.{length};
+ghost use Rattle.core.specs.Instruction.{isFetch};
+ghost use Rattle.agreement.specs.Difference.{firstDiffering, differenceOfCells, firstDifference};
+use core::control::Stage;
+use core::machine::Clocked;
+use core::refusal::ACCEPTED;
+use deck::lines::LinesRun;
+
+// The first thing that differs, with its value on either side.
+pub enum Difference {
+    None,
+    Refusal {
+        number: u8,
+    },
+    Acc {
+        by_lines: u8,
+        by_clocks: u8,
+    },
+    Flags {
+        by_lines: u8,
+        by_clocks: u8,
+    },
+    Counter {
+        by_lines: u8,
+        by_clocks: u8,
+    },
+    Stage,
+    Cell {
+        place: u8,
+        by_lines: u8,
+        by_clocks: u8,
+    },
+}
+
+// Of the cells that the lines left and of those that the clocks left: the first place where they differ, 16 where none does.
+fn first_differing(cells: &[u8], others: &[u8]) -> usize
+    requires { ⌜ (length (now cells) ≡ 16) × (length (now others) ≡ 16) ⌝ }
+    ensures { λ r. ⌜ r ≡ firstDiffering (now (cells .entry)) (now (others .entry)) ⌝ }
+{
+    let mut place: usize = 0;
+    while place < cells.len() {
+        if cells[place] != others[place] {
+            return place;
+        }
+        place += 1;
+    }
+    place
+}
+
+fn difference_of_cells(cells: &[u8], others: &[u8]) -> Difference
+    requires { ⌜ (length (now cells) ≡ 16) × (length (now others) ≡ 16) ⌝ }
+    ensures { λ r. ⌜ r ≡ differenceOfCells (now (cells .entry)) (now (others .entry)) ⌝ }
+{
+    let place = first_differing(cells, others);
+    if place < 16 {
+        return Difference::Cell {
+            place: place as u8,
+            by_lines: cells[place],
+            by_clocks: others[place],
+        };
+    }
+    Difference::None
+}
+
+// A difference if there is one, else what comes after it.
+fn or_else(differs: bool, difference: Difference, after: Difference) -> Difference
+    ensures { λ r. ⌜ r ≡ cond differs difference after ⌝ }
+{
+    if differs { difference } else { after }
+}
+
+fn is_fetch(stage: Stage) -> bool
+    ensures { λ r. ⌜ r ≡ isFetch stage ⌝ }
+{
+    match stage {
+        Stage::Fetch => true,
+        Stage::Decode => false,
+        Stage::Execute => false,
+    }
+}
+
+// Refusal, Acc, flags, counter and stage, then the cells in order; worked out from the last to the first.
+pub(crate) fn first_difference(
+    lines: LinesRun,
+    cells: &[u8],
+    clocked: Clocked,
+    others: &[u8],
+) -> Difference
+    requires { ⌜ (length (now cells) ≡ 16) × (length (now others) ≡ 16) ⌝ }
+    ensures { λ r. ⌜ r ≡ firstDifference lines (now (cells .entry)) clocked (now (others .entry)) ⌝ }
+{
+    let machine = clocked.machine;
+    let stage = machine.stage;
+    let by_lines = lines.pc.0;
+    let by_clocks = machine.pc.0;
+    let from_cells = difference_of_cells(cells, others);
+    let from_stage = or_else(!is_fetch(stage), Difference::Stage, from_cells);
+    let counter = Difference::Counter {
+        by_lines,
+        by_clocks,
+    };
+    let from_counter = or_else(by_clocks != by_lines, counter, from_stage);
+    let flags = Difference::Flags {
+        by_lines: lines.flags,
+        by_clocks: machine.sr,
+    };
+    let from_flags = or_else(machine.sr != lines.flags, flags, from_counter);
+    let acc = Difference::Acc {
+        by_lines: lines.acc,
+        by_clocks: machine.acc,
+    };
+    let from_acc = or_else(machine.acc != lines.acc, acc, from_flags);
+    let refusal = Difference::Refusal {
+        number: clocked.refusal,
+    };
+    or_else(clocked.refusal != ACCEPTED, refusal, from_acc)
+}
