@@ -2,14 +2,14 @@
 -- Assumes nothing.
 use Prim.Native.Nat.{ℕ, zero, suc, _+_, _≤_, _<_}
 use mathlib.Core.Bool.{Bool, true, false}
-use mathlib.Core.List.{_++_, map}
+use mathlib.Core.List.{_++_}
 use mathlib.Core.Path.{_≡_, refl, _∙_, ap, sym}
 use native.Mathlib.Nat.{not-suc-le-zero, le-trans, le-refl, le-add-right}
 use native.Mathlib.Numerals.{add-one}
 use native.Mathlib.Omega.{arith}
 use borrow.Author.Tests.{ltb-true, ltb-false}
 use lib.Dec.{ltb}
-use lib.ListN.{length, getD, length-append, List·getD-append}
+use lib.ListN.{length, length-map, getD, length-append, List·getD-append}
 use lib.Seq.{getD-append-add}
 use Rattle.core.specs.Word.{wordOf}
 use Rattle.deck.specs.Image.{address, totalWords, instructionsOf, lineWords, imageUpTo}
@@ -64,16 +64,16 @@ module _ (p : Program) where
   pub address-lt : (line : ℕ) → line < p .count → totalWords p ≤ 256 → address p line < 256
   address-lt line h s = omega (arith, address-ends line (p .count) h, words-pos (p .line line))
 
-  code-length : (here : ℕ) (operation : Operation) → length (map wordOf (instructionsOf p here operation)) ≡ words operation
-  code-length here (Operation.M d mode cell) = refl
-  code-length here (Operation.I mode immediate) = refl
-  code-length here (Operation.Goto line) = refl
-  code-length here (Operation.JumpIf f line) = refl
-  code-length here (Operation.JumpUnless f line) = refl
-  code-length here Operation.Nop = refl
+  pub instructions-length : (here : ℕ) (operation : Operation) → length (instructionsOf p here operation) ≡ words operation
+  instructions-length here (Operation.M d mode cell) = refl
+  instructions-length here (Operation.I mode immediate) = refl
+  instructions-length here (Operation.Goto line) = refl
+  instructions-length here (Operation.JumpIf f line) = refl
+  instructions-length here (Operation.JumpUnless f line) = refl
+  instructions-length here Operation.Nop = refl
 
   line-length : (line : ℕ) → length (lineWords p line) ≡ words (p .line line)
-  line-length line = code-length (address p line) (p .line line)
+  line-length line = length-map (instructionsOf p (address p line) (p .line line)) wordOf ∙ instructions-length (address p line) (p .line line)
 
   pub image-length : (n : ℕ) → length (imageUpTo p n) ≡ address p n
   unfolding imageUpTo address

@@ -7,8 +7,8 @@ ghost use Rattle.core.specs.Refusal.{accepted};
 ghost use Rattle.core.specs.Word.{programAddress, inRange, wordOf};
 ghost use Rattle.deck.specs.Bytes.{lineCount};
 ghost use Rattle.deck.specs.Deck.{deckRefusal};
-ghost use Rattle.deck.specs.Image.{address, totalWords, lineWords, image};
-ghost use Rattle.deck.specs.Operation.{program};
+ghost use Rattle.deck.specs.Image.{address, totalWords, lineWords, image, firstOf};
+ghost use Rattle.deck.specs.Operation.{program, Lands};
 ghost use Rattle.deck.specs.Translate.{overwritten, startingWith, TranslatePromise};
 use super::address::address_of;
 use super::bytes::line_count;
@@ -46,13 +46,36 @@ fn target_of(deck: &[u8], line: u16) -> ProgramAddress
 
 // "jump if f to (p+2) mod 256": past the GOTO that comes after it. From the last two words of the memory that is address 0.
 fn skip_target(here: u16) -> ProgramAddress
-    requires { ⌜ here < 255 ⌝ }
+    requires { ⌜ here < 256 ⌝ }
     ensures { λ r. ⌜ r ≡ programAddress ((here + 2) % 256) ⌝ }
 {
     ProgramAddress(((here + 2) % 256) as u8)
 }
 
-// Writes the words of a line at its address, and gives the address of the next line.
+// The first instruction of a line at an address; the only one of most.
+fn first_of(deck: &[u8], operation: Operation, here: u16) -> Instruction
+    requires { ⌜ (deckRefusal (now deck) ≡ accepted) × Lands (lineCount (now deck)) operation × (here < 256) ⌝ }
+    ensures { λ r. ⌜ r ≡ firstOf (program (now (deck .entry))) here operation ⌝ }
+{
+    match operation {
+        Operation::M { d, mode, cell } => Instruction::M { d, mode, cell },
+        Operation::I { mode, immediate } => Instruction::I { mode, immediate },
+        Operation::Goto { line } => Instruction::Goto {
+            target: target_of(deck, line),
+        },
+        Operation::JumpIf { flag, line } => Instruction::JumpIf {
+            flag,
+            target: target_of(deck, line),
+        },
+        Operation::JumpUnless { flag, line: _ } => Instruction::JumpIf {
+            flag,
+            target: skip_target(here),
+        },
+        Operation::Nop => Instruction::S { k: 0 },
+    }
+}
+
+// Writes the words of a line at its address, and gives the address of the next line. Operation 26 has a second word, "GOTO the label's address".
 fn write_line(deck: &[u8], line: u16, here: u16, output: &mut [u16]) -> u16
     requires { ⌜ (deckRefusal (now deck) ≡ accepted) × (line < lineCount (now deck)) × (here ≡ address (program (now deck)) line)
         × (totalWords (program (now deck)) ≤ length (now output)) ⌝ }
@@ -60,27 +83,12 @@ fn write_line(deck: &[u8], line: u16, here: u16, output: &mut [u16]) -> u16
         × (now (output .exit) ≡ overwritten here (lineWords (program (now (deck .entry))) line) (now (output .entry))) ⌝ }
 {
     let operation = operation_at(deck, line);
-    match operation {
-        Operation::M { d, mode, cell } => write(Instruction::M { d, mode, cell }, here, output),
-        Operation::I { mode, immediate } => {
-            write(Instruction::I { mode, immediate }, here, output)
-        }
-        Operation::Goto { line: to } => {
-            let target = target_of(deck, to);
-            write(Instruction::Goto { target }, here, output)
-        }
-        Operation::JumpIf { flag, line: to } => {
-            let target = target_of(deck, to);
-            write(Instruction::JumpIf { flag, target }, here, output)
-        }
-        Operation::JumpUnless { flag, line: to } => {
-            let target = target_of(deck, to);
-            let skip = skip_target(here);
-            let second = write(Instruction::JumpIf { flag, target: skip }, here, output);
-            write(Instruction::Goto { target }, second, output)
-        }
-        Operation::Nop => write(Instruction::S { k: 0 }, here, output),
-    }
+    let second = write(first_of(deck, operation, here), here, output);
+    let Operation::JumpUnless { flag: _, line: to } = operation else {
+        return second;
+    };
+    let target = target_of(deck, to);
+    write(Instruction::Goto { target }, second, output)
 }
 
 // Writes the words of all lines, and gives their count.
