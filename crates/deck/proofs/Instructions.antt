@@ -18,7 +18,8 @@ use Rattle.core.specs.Word.{inRange}
 use Rattle.core.specs.declared.word.Instruction.{Instruction}
 use Rattle.deck.specs.Bytes.{lineCount}
 use Rattle.deck.specs.Image.{totalWords, instructionsOf, address, imageUpTo, image, lineWords}
-use Rattle.deck.specs.Operation.{Program, Fits, Lands, program, operationAt}
+use Rattle.deck.specs.Operation.{Program, program, operationAt}
+use Rattle.deck.specs.Private.{Fits, Lands}
 use Rattle.deck.specs.declared.operation.Operation.{Operation}
 use Rattle.deck.proofs.Addresses.{address-lt, image-length}
 use Rattle.deck.proofs.Sound.{Sound, line-fits, line-lands}

@@ -13,9 +13,10 @@ use Rattle.core.specs.Word.{inRange, wordOf, programAddress}
 use Rattle.core.specs.declared.word.Instruction.{Instruction}
 use Rattle.deck.specs.Bytes.{lineCount}
 use Rattle.deck.specs.Deck.{deckRefusal}
-use Rattle.deck.specs.Image.{address, totalWords, instructionsOf, lineWords, imageUpTo, firstOf}
+use Rattle.deck.specs.Image.{address, totalWords, instructionsOf, lineWords, imageUpTo}
 use Rattle.deck.specs.Operation.{operationAt, words, Program, program}
-use Rattle.deck.specs.Translate.{overwritten, startingWith}
+use Rattle.deck.specs.Private.{firstOf, overwritten}
+use Rattle.deck.specs.Translate.{startingWith}
 use Rattle.deck.specs.declared.operation.Operation.{Operation}
 use Rattle.deck.proofs.Addresses.{words-pos, address-ends, address-lt, image-length, image-next, instructions-length}
 use Rattle.deck.proofs.Instructions.{InRange, line-in-range}

@@ -11,7 +11,8 @@ use lib.Dec.{ltb}
 use lib.ListN.{length, take, getD, set, length-append}
 use lib.Seq.{length-take-le, take-suc}
 use Rattle.deck.specs.Listing.{decimal, wordLine, wordLines}
-use Rattle.deck.specs.Translate.{overwritten, startingWith}
+use Rattle.deck.specs.Private.{overwritten}
+use Rattle.deck.specs.Translate.{startingWith}
 use Rattle.deck.proofs.Writing.{one, same-length, more, from-start, more-at-start}
 
 -- `more`, at a place that is known as a number

@@ -21,7 +21,8 @@ use Rattle.core.specs.declared.word.Instruction.{Instruction}
 use Rattle.deck.specs.Agreement.{afterClocks, Agree}
 use Rattle.deck.specs.Image.{totalWords, counterAt, address, image, lineWords, instructionsOf}
 use Rattle.deck.specs.Lines.{lineState, executed, afterLine, lineEffect, lineNext}
-use Rattle.deck.specs.Operation.{Program, words, Lands}
+use Rattle.deck.specs.Operation.{Program, words}
+use Rattle.deck.specs.Private.{Lands}
 use Rattle.deck.specs.declared.operation.Operation.{Operation}
 use Rattle.deck.proofs.Addresses.{address-ends, word-at, address-lt, address-next, words-pos}
 use Rattle.deck.proofs.Instructions.{InRange}

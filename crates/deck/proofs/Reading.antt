@@ -9,7 +9,7 @@ use lib.Dec.{eqb}
 use lib.ListN.{length, getD}
 use Rattle.core.specs.Refusal.{accepted}
 use Rattle.core.specs.Word.{NumberAndValues}
-use Rattle.deck.specs.Deck.{readAs, lineNumberAndValues}
+use Rattle.deck.specs.Private.{readAs, lineNumberAndValues}
 use Rattle.deck.specs.declared.line.Line.{Line}
 use Rattle.deck.specs.declared.operation.Operation.{Operation}
 

@@ -14,7 +14,8 @@ use Rattle.core.proofs.Iteration.{iterate-last, total-last, iterate-still, tota
 use Rattle.core.specs.Rule.{Act, Visible, OneCell, effect}
 use Rattle.core.specs.Word.{flag}
 use Rattle.deck.specs.Lines.{LineState, lineEffect, lineNext, executed, afterLine, lineStep, lineCost, lineTally, afterLines, linesOf, clocksOf, lineExecuted}
-use Rattle.deck.specs.Operation.{Program, Lands}
+use Rattle.deck.specs.Operation.{Program}
+use Rattle.deck.specs.Private.{Lands}
 use Rattle.deck.specs.declared.operation.Operation.{Operation}
 
 module _ (p : Program) (s : LineState) where
@@ -81,24 +82,24 @@ module _ (p : Program) (start : LineState) (n : ℕ) (s : LineState) (at : s ≡
         ∙ add-zero (clocksOf p n start))
 
 -- a line executes at most two words
-pub executed-le : (operation : Operation) (sr : ℕ) → executed operation sr ≤ 2
-executed-le (Operation.M d mode cell) sr = omega arith
-executed-le (Operation.I mode immediate) sr = omega arith
-executed-le (Operation.Goto line) sr = omega arith
-executed-le (Operation.JumpIf f line) sr = omega arith
-executed-le (Operation.JumpUnless f line) sr = either (λ (k : ℕ). k ≤ 2) (flag f sr) 1 2 (omega arith) (omega arith)
-executed-le Operation.Nop sr = omega arith
+pub executed-le : (operation : Operation) (flags : ℕ) → executed operation flags ≤ 2
+executed-le (Operation.M d mode cell) flags = omega arith
+executed-le (Operation.I mode immediate) flags = omega arith
+executed-le (Operation.Goto line) flags = omega arith
+executed-le (Operation.JumpIf f line) flags = omega arith
+executed-le (Operation.JumpUnless f line) flags = either (λ (k : ℕ). k ≤ 2) (flag f flags) 1 2 (omega arith) (omega arith)
+executed-le Operation.Nop flags = omega arith
 
 -- from a line, a run comes to a line or to the position past the last
-pub lands-next : (operation : Operation) (count position sr : ℕ) → Lands count operation → position < count → lineNext operation position sr ≤ count
-lands-next (Operation.M d mode cell) count position sr l h = omega arith
-lands-next (Operation.I mode immediate) count position sr l h = omega arith
-lands-next (Operation.Goto line) count position sr l h = omega arith
-lands-next (Operation.JumpIf f line) count position sr l h =
-    either (λ (k : ℕ). k ≤ count) (flag f sr) line (position + 1) (omega arith) (omega arith)
-lands-next (Operation.JumpUnless f line) count position sr l h =
-    either (λ (k : ℕ). k ≤ count) (flag f sr) (position + 1) line (omega arith) (omega arith)
-lands-next Operation.Nop count position sr l h = omega arith
+pub lands-next : (operation : Operation) (count position flags : ℕ) → Lands count operation → position < count → lineNext operation position flags ≤ count
+lands-next (Operation.M d mode cell) count position flags l h = omega arith
+lands-next (Operation.I mode immediate) count position flags l h = omega arith
+lands-next (Operation.Goto line) count position flags l h = omega arith
+lands-next (Operation.JumpIf f line) count position flags l h =
+    either (λ (k : ℕ). k ≤ count) (flag f flags) line (position + 1) (omega arith) (omega arith)
+lands-next (Operation.JumpUnless f line) count position flags l h =
+    either (λ (k : ℕ). k ≤ count) (flag f flags) (position + 1) line (omega arith) (omega arith)
+lands-next Operation.Nop count position flags l h = omega arith
 
 -- what a line does to what is seen is an act: a jump passes
 abbrev acting : Operation → Act

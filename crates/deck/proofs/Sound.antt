@@ -11,9 +11,10 @@ use lib.ListN.{length}
 use Rattle.core.proofs.Order.{passed}
 use Rattle.core.specs.Refusal.{accepted, firstBroken}
 use Rattle.deck.specs.Bytes.{labelCount, labelLine, lineCount, lineCountAt, recordAt, operationByte, secondByte, operandByte}
-use Rattle.deck.specs.Deck.{layoutChecks, checksOfLabel, checksOfLine, deckRefusal, Complete, lineRefusal}
+use Rattle.deck.specs.Deck.{layoutChecks, checksOfLabel, checksOfLine, deckRefusal}
 use Rattle.deck.specs.Image.{totalWords}
-use Rattle.deck.specs.Operation.{rowOf, operationAt, program, Fits, Lands}
+use Rattle.deck.specs.Operation.{rowOf, operationAt, program}
+use Rattle.deck.specs.Private.{Complete, lineRefusal, Fits, Lands}
 use Rattle.deck.proofs.Parts.{in-order, each-passed, of-label, of-line, both}
 
 -- the first five checks passed

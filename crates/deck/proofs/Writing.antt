@@ -8,7 +8,8 @@ use native.Mathlib.Numerals.{add-one}
 use native.Mathlib.Omega.{arith}
 use lib.ListN.{length, take, drop, set, length-append, length-drop, take-append-drop}
 use lib.Seq.{length-take-le, take-append-seam, drop-append-add, append-snoc, set-split, take-at, drop-drop}
-use Rattle.deck.specs.Translate.{overwritten, startingWith}
+use Rattle.deck.specs.Translate.{startingWith}
+use Rattle.deck.specs.Private.{overwritten}
 
 -- nothing written
 pub none : (place : ℕ) (output : List ℕ) → overwritten place [] output ≡ output

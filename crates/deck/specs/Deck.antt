@@ -1,19 +1,16 @@
 -- The refusals of a deck, in document 01's order: "Deck: 1 for K and labels, 1 for L, 3, 1 for records, 2, then 4 in label order, then line by line 5, 6,
 -- 7, then 8."
 -- Assumes nothing.
-use Prim.Native.Nat.{ℕ, zero, suc, _≤_}
-use mathlib.Core.Bool.{cond, not}
+use Prim.Native.Nat.{ℕ, zero, suc}
+use mathlib.Core.Bool.{not}
 use mathlib.Core.List.{List, [], _∷_, _++_}
 use mathlib.Core.Path.{_≡_}
-use lib.Dec.{eqb, ltb}
+use lib.Dec.{ltb}
 use lib.ListN.{length}
-use Rattle.core.specs.Refusal.{accepted, deckTooShort, bytesAfterLines, linesAbove256, labelNotBelowLines, operationAbove27, secondByteNotAllowed, operandNotAllowed, wordsAbove256, Check, check, firstBroken}
-use Rattle.core.specs.Word.{NumberAndValues}
+use Rattle.core.specs.Refusal.{deckTooShort, bytesAfterLines, linesAbove256, labelNotBelowLines, operationAbove27, secondByteNotAllowed, operandNotAllowed, wordsAbove256, Check, check, firstBroken}
 use Rattle.deck.specs.Bytes.{labelCount, labelLine, lineCountAt, lineCount, recordAt, operationByte, secondByte, operandByte}
 use Rattle.deck.specs.Image.{totalWords}
 use Rattle.deck.specs.Operation.{rowOf, program}
-use Rattle.deck.specs.declared.operation.Operation.{Operation}
-use Rattle.deck.specs.declared.line.Line.{Line}
 
 -- "1 for K and labels, 1 for L, 3, 1 for records, 2"
 abbrev pub layoutChecks : List ℕ → List Check
@@ -65,25 +62,3 @@ deckRefusal deck = firstBroken (deckChecks deck)
 -- what `check` promises of its answer
 abbrev pub CheckPromise : List ℕ → ℕ → Type 0
 CheckPromise deck answer = answer ≡ deckRefusal deck
-
--- For private contracts, here and below: a line that is read, by its number and values.
-abbrev pub lineNumberAndValues : Line → NumberAndValues Operation
-lineNumberAndValues (Line.Accepted operation) = record { number = accepted; values = operation ∷ [] }
-lineNumberAndValues (Line.Refused number) = record { number = number; values = [] }
-
-abbrev pub readAs : ℕ → Operation → NumberAndValues Operation
-readAs number operation = record { number = number; values = cond (eqb number accepted) (operation ∷ []) [] }
-
--- a record that is read: the number of the first rule that it breaks, and what it is
-abbrev pub recordRead : List ℕ → ℕ → ℕ → ℕ → NumberAndValues Operation
-recordRead deck operation second operand =
-    readAs (firstBroken (recordChecks deck operation second operand)) (rowOf deck operation .means second operand)
-
--- the number of the first rule that a line breaks
-unfoldable pub lineRefusal : List ℕ → ℕ → ℕ
-lineRefusal deck line = firstBroken (checksOfLine deck line)
-
--- For private contracts: what the layout checks leave. The lines are at most 256, and the deck ends where they end.
-pub record Complete (deck : List ℕ) : Type 0 where
-  pub few : lineCount deck ≤ 256
-  pub ends : length deck ≡ recordAt deck (lineCount deck)

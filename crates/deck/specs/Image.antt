@@ -2,7 +2,6 @@
 -- Assumes nothing.
 use Prim.Native.Nat.{ℕ, zero, suc, _+_, _%_}
 use mathlib.Core.List.{List, [], _∷_, _++_, map}
-use lib.ListN.{getD}
 use Rattle.core.specs.Word.{programAddress, wordOf}
 use Rattle.core.specs.declared.address.ProgramAddress.{ProgramAddress}
 use Rattle.core.specs.declared.word.Instruction.{Instruction}
@@ -31,10 +30,6 @@ instructionsOf p here (Operation.JumpIf f line) = Instruction.JumpIf f (programA
 instructionsOf p here (Operation.JumpUnless f line) =
     Instruction.JumpIf f (programAddress ((here + 2) % 256)) ∷ Instruction.Goto (programAddress (address p line)) ∷ []
 instructionsOf p here Operation.Nop = Instruction.S 0 ∷ []
-
--- For a private contract: the first of them.
-abbrev pub firstOf : Program → ℕ → Operation → Instruction
-firstOf p here operation = getD (instructionsOf p here operation) 0 (Instruction.S 0)
 
 abbrev pub lineWords : Program → ℕ → List ℕ
 lineWords p line = map wordOf (instructionsOf p (address p line) (p .line line))

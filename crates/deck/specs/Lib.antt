@@ -6,3 +6,4 @@ pub mod Translate
 pub mod Lines
 pub mod Agreement
 pub mod Listing
+pub mod Private

@@ -1,6 +1,6 @@
 -- Document 01's line rules, which "speak of lines alone: position, Acc, flags, cells", and what the line runner answers.
 -- Assumes nothing.
-use Prim.Native.Nat.{ℕ, _+_, _*_, _≤_}
+use Prim.Native.Nat.{ℕ, _+_, _*_}
 use mathlib.Core.Bool.{Bool, cond, not}
 use mathlib.Core.List.{_++_, List, [], _∷_}
 use mathlib.Core.Path.{_≡_}
@@ -10,13 +10,10 @@ use Rattle.core.specs.Iterate.{iterate, total}
 use Rattle.core.specs.Refusal.{accepted, firstBroken, check, notSixteenCells}
 use Rattle.core.specs.Rule.{Act, Visible, effect}
 use Rattle.core.specs.Word.{flag}
-use Rattle.deck.specs.Bytes.{lineCount}
 use Rattle.deck.specs.Deck.{deckChecks}
 use Rattle.deck.specs.Image.{counterAt}
 use Rattle.deck.specs.Operation.{Program, program}
 use Rattle.deck.specs.declared.lines.LinesRun.{LinesRun}
-use Rattle.deck.specs.declared.lines.Reached.{Reached}
-use Rattle.deck.specs.declared.lines.Registers.{Registers}
 use Rattle.deck.specs.declared.operation.Operation.{Operation}
 use Rattle.deck.specs.declared.operation.Operation.the-variants.{M, I, Goto, JumpIf, JumpUnless, Nop}
 
@@ -27,10 +24,6 @@ pub record LineState : Type 0 where
 
 abbrev pub lineState : ℕ → Visible → LineState
 lineState position sees = record { position = position; sees = sees }
-
--- For private contracts: what the code's registers and the cells are to the rules.
-abbrev pub seen : Registers → List ℕ → Visible
-seen registers cells = record { acc = registers .acc; sr = registers .sr; cells = cells }
 
 -- what a line does to Acc, flags and cells: an M or an I operation does what the instruction does, the others nothing
 abbrev pub lineEffect : Operation → Visible → Visible
@@ -43,21 +36,21 @@ lineEffect Nop v = v
 
 -- "A jump moves to its label's line; other lines go to the next. Operation 26 jumps when the flag is 0."
 abbrev pub lineNext : Operation → ℕ → ℕ → ℕ
-lineNext (M d mode cell) position sr = position + 1
-lineNext (I mode immediate) position sr = position + 1
-lineNext (Goto line) position sr = line
-lineNext (JumpIf f line) position sr = cond (flag f sr) line (position + 1)
-lineNext (JumpUnless f line) position sr = cond (flag f sr) (position + 1) line
-lineNext Nop position sr = position + 1
+lineNext (M d mode cell) position flags = position + 1
+lineNext (I mode immediate) position flags = position + 1
+lineNext (Goto line) position flags = line
+lineNext (JumpIf f line) position flags = cond (flag f flags) line (position + 1)
+lineNext (JumpUnless f line) position flags = cond (flag f flags) (position + 1) line
+lineNext Nop position flags = position + 1
 
 -- The words that a line executes: all that it has, but where operation 26 does not jump its GOTO is skipped.
 abbrev pub executed : Operation → ℕ → ℕ
-executed (M d mode cell) sr = 1
-executed (I mode immediate) sr = 1
-executed (Goto line) sr = 1
-executed (JumpIf f line) sr = 1
-executed (JumpUnless f line) sr = cond (flag f sr) 1 2
-executed Nop sr = 1
+executed (M d mode cell) flags = 1
+executed (I mode immediate) flags = 1
+executed (Goto line) flags = 1
+executed (JumpIf f line) flags = 1
+executed (JumpUnless f line) flags = cond (flag f flags) 1 2
+executed Nop flags = 1
 
 -- a run "stops on passing the last line"
 abbrev pub running : Program → LineState → Bool
@@ -100,14 +93,6 @@ clocksOf p asked s = total (lineCost p) (lineStep p) asked s
 
 abbrev pub wordsExecuted : Program → ℕ → LineState → ℕ
 wordsExecuted p asked s = total (lineExecuted p) (lineStep p) asked s
-
--- For a private function's contract: what a run that is not refused reaches and counts.
-abbrev pub Reaches : ℕ → List ℕ → List ℕ → Reached → List ℕ → Type 0
-Reaches asked deck cells r cells' =
-    (lineState (r .position) (seen (r .registers) cells') ≡ afterLines (program deck) asked (atStart cells))
-    × (r .lines ≡ linesOf (program deck) asked (atStart cells))
-    × (r .clocks ≡ clocksOf (program deck) asked (atStart cells))
-    × (r .position ≤ lineCount deck)
 
 -- "The translator then tries 9, the line runner 12."
 unfoldable pub linesRefusal : List ℕ → ℕ → ℕ

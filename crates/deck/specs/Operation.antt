@@ -1,6 +1,6 @@
 -- Document 01's table of operations, and the program that a deck holds: its lines, with every label looked up.
 -- Assumes nothing.
-use Prim.Native.Nat.{ℕ, _-_, _<_}
+use Prim.Native.Nat.{ℕ, _-_}
 use mathlib.Core.Bool.{cond}
 use mathlib.Core.List.{List, [], _∷_}
 use lib.Dec.{eqb, ltb}
@@ -64,21 +64,3 @@ lookedUp deck label =
     cond (ltb label (labelCount deck))
     (record { number = accepted; values = labelLine deck label ∷ [] })
     (record { number = operandNotAllowed; values = [] })
-
--- For private contracts: what the table allows a line to be. Each field is within the bits that its words have for it,
-abbrev pub Fits : Operation → Type 0
-Fits (M d mode cell) = (d < 2) × (mode < 16) × (cell .0 < 16)
-Fits (I mode immediate) = (mode < 8) × (immediate < 256)
-Fits (Goto line) = Unit {0}
-Fits (JumpIf f line) = f < 4
-Fits (JumpUnless f line) = f < 4
-Fits Nop = Unit {0}
-
--- and a jump to one of so many lines.
-abbrev pub Lands : ℕ → Operation → Type 0
-Lands lines (M d mode cell) = Unit {0}
-Lands lines (I mode immediate) = Unit {0}
-Lands lines (Goto line) = line < lines
-Lands lines (JumpIf f line) = line < lines
-Lands lines (JumpUnless f line) = line < lines
-Lands lines Nop = Unit {0}

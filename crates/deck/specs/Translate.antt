@@ -1,11 +1,11 @@
 -- What the translator answers and leaves in its output.
 -- Assumes nothing.
-use Prim.Native.Nat.{ℕ, _+_}
+use Prim.Native.Nat.{ℕ}
 use mathlib.Core.Bool.{cond}
 use mathlib.Core.List.{List, [], _∷_, _++_}
 use mathlib.Core.Path.{_≡_}
 use lib.Dec.{eqb, ltb}
-use lib.ListN.{length, take, drop}
+use lib.ListN.{length, drop}
 use Rattle.core.specs.Refusal.{accepted, outputTooShort, check, firstBroken}
 use Rattle.deck.specs.Deck.{deckChecks}
 use Rattle.deck.specs.Image.{totalWords, image}
@@ -20,10 +20,6 @@ translateRefusal deck room =
 -- "A refusal returns its number; .. other result fields are 0".
 abbrev pub translatedAs : ℕ → ℕ → Translated
 translatedAs number count = record { refusal = number; words = cond (eqb number accepted) count 0 }
-
--- For private contracts: the output with these items from a place on.
-abbrev pub overwritten : ℕ → List ℕ → List ℕ → List ℕ
-overwritten place items output = take place output ++ items ++ drop (place + length items) output
 
 -- "A call that writes output returns the count of items written .. and touches no output beyond them." The output with these items at its start:
 abbrev pub startingWith : List ℕ → List ℕ → List ℕ

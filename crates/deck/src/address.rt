@@ -2,9 +2,9 @@
 ghost use mathlib.Core.Path.{_≡_};
 ghost use Prim.Native.Nat.{_≤_, _<_};
 ghost use Rattle.deck.specs.Bytes.{lineCount};
-ghost use Rattle.deck.specs.Deck.{Complete};
 ghost use Rattle.deck.specs.Image.{address};
 ghost use Rattle.deck.specs.Operation.{program, operationAt, words};
+ghost use Rattle.deck.specs.Private.{Complete};
 use super::bytes::record_at;
 
 // The "words" column: every line has one word, but operation 26 two.

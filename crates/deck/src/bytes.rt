@@ -3,7 +3,7 @@ ghost use mathlib.Core.Path.{_≡_};
 ghost use Prim.Native.Nat.{_+_, _≤_, _<_};
 ghost use lib.ListN.{length};
 ghost use Rattle.deck.specs.Bytes.{twoBytesAt, labelCount, labelLine, lineCountAt, lineCount, recordAt};
-ghost use Rattle.deck.specs.Deck.{Complete};
+ghost use Rattle.deck.specs.Private.{Complete};
 
 // "two-byte numbers low byte first"
 fn two_bytes(deck: &[u8], place: usize) -> u16

@@ -1,7 +1,7 @@
 // Labels, by number.
 ghost use mathlib.Core.Path.{_≡_};
-ghost use Rattle.deck.specs.Deck.{Complete};
 ghost use Rattle.deck.specs.Operation.{labelNumberAndValues, lookedUp};
+ghost use Rattle.deck.specs.Private.{Complete};
 use super::bytes::label_count;
 use super::bytes::label_line;
 

@@ -6,8 +6,8 @@ ghost use lib.ListN.{length};
 ghost use Rattle.core.specs.Refusal.{accepted};
 ghost use Rattle.core.specs.Rule.{Act, effect};
 ghost use Rattle.deck.specs.Deck.{deckRefusal};
-ghost use Rattle.deck.specs.Lines.{seen, lineEffect, lineNext, executed, Reaches, noLines, LinesPromise};
-ghost use Rattle.deck.specs.Operation.{Fits};
+ghost use Rattle.deck.specs.Lines.{lineEffect, lineNext, executed, noLines, LinesPromise};
+ghost use Rattle.deck.specs.Private.{seen, Reaches, Fits};
 use super::address::address_of;
 use super::bytes::line_count;
 use super::check::check;
@@ -34,7 +34,7 @@ pub struct LinesRun {
 // Acc and flags. The cells stand in the caller's memory.
 struct Registers {
     acc: u8,
-    sr: u8,
+    flags: u8,
 }
 
 // Where a run stands, and what it has counted.
@@ -47,36 +47,36 @@ struct Reached {
 
 // "M uses b = cell; d = 1 writes Acc, d = 0 writes the same cell."
 fn on_cell(d: u8, mode: u8, cell: DataAddress, before: Registers, cells: &mut [u8]) -> Registers
-    requires { ⌜ (mode < 16) × (cell .0 < 16) × (before .sr < 16) × (length (now cells) ≡ 16) ⌝ }
+    requires { ⌜ (mode < 16) × (cell .0 < 16) × (before .flags < 16) × (length (now cells) ≡ 16) ⌝ }
     ensures { λ r. ⌜ seen r (now (cells .exit)) ≡ effect (Act.OnCell d mode cell) (seen before (now (cells .entry))) ⌝ }
 {
     let place = cell.0 as usize;
-    let out = unit(mode, before.acc, cells[place], before.sr);
+    let out = unit(mode, before.acc, cells[place], before.flags);
     if d == 1 {
         return Registers {
             acc: out.result,
-            sr: out.flags,
+            flags: out.flags,
         };
     }
     cells[place] = out.result;
     Registers {
         acc: before.acc,
-        sr: out.flags,
+        flags: out.flags,
     }
 }
 
 // What a line does to Acc, flags and cells.
 fn apply(operation: Operation, before: Registers, cells: &mut [u8]) -> Registers
-    requires { ⌜ Fits operation × (before .sr < 16) × (length (now cells) ≡ 16) ⌝ }
+    requires { ⌜ Fits operation × (before .flags < 16) × (length (now cells) ≡ 16) ⌝ }
     ensures { λ r. ⌜ seen r (now (cells .exit)) ≡ lineEffect operation (seen before (now (cells .entry))) ⌝ }
 {
     match operation {
         Operation::M { d, mode, cell } => on_cell(d, mode, cell, before, cells),
         Operation::I { mode, immediate } => {
-            let out = unit(mode, before.acc, immediate, before.sr);
+            let out = unit(mode, before.acc, immediate, before.flags);
             Registers {
                 acc: out.result,
-                sr: out.flags,
+                flags: out.flags,
             }
         }
         Operation::Goto { line: _ } => before,
@@ -93,9 +93,9 @@ fn chosen(test: bool, yes: u16, no: u16) -> u16
 }
 
 // "A jump moves to its label's line; other lines go to the next. Operation 26 jumps when the flag is 0."
-fn next(operation: Operation, position: u16, sr: u8) -> u16
+fn next(operation: Operation, position: u16, flags: u8) -> u16
     requires { ⌜ position < 256 ⌝ }
-    ensures { λ r. ⌜ r ≡ lineNext operation position sr ⌝ }
+    ensures { λ r. ⌜ r ≡ lineNext operation position flags ⌝ }
 {
     let following = position + 1;
     match operation {
@@ -109,15 +109,15 @@ fn next(operation: Operation, position: u16, sr: u8) -> u16
             immediate: _,
         } => following,
         Operation::Goto { line } => line,
-        Operation::JumpIf { flag, line } => chosen(is_flag_set(flag, sr), line, following),
-        Operation::JumpUnless { flag, line } => chosen(is_flag_set(flag, sr), following, line),
+        Operation::JumpIf { flag, line } => chosen(is_flag_set(flag, flags), line, following),
+        Operation::JumpUnless { flag, line } => chosen(is_flag_set(flag, flags), following, line),
         Operation::Nop => following,
     }
 }
 
 // "Cost: 3 clocks for each executed word, so operation 26 costs 3 if the flag is 1 and 6 otherwise."
-fn cost(operation: Operation, sr: u8) -> u16
-    ensures { λ r. ⌜ r ≡ 3 * executed operation sr ⌝ }
+fn cost(operation: Operation, flags: u8) -> u16
+    ensures { λ r. ⌜ r ≡ 3 * executed operation flags ⌝ }
 {
     match operation {
         Operation::M {
@@ -131,7 +131,7 @@ fn cost(operation: Operation, sr: u8) -> u16
         } => 3,
         Operation::Goto { line: _ } => 3,
         Operation::JumpIf { flag: _, line: _ } => 3,
-        Operation::JumpUnless { flag, line: _ } => chosen(is_flag_set(flag, sr), 3, 6),
+        Operation::JumpUnless { flag, line: _ } => chosen(is_flag_set(flag, flags), 3, 6),
         Operation::Nop => 3,
     }
 }
@@ -143,7 +143,7 @@ fn run_accepted(deck: &[u8], cells: &mut [u8], asked: u32) -> Reached
 {
     let count = line_count(deck);
     let mut position: u16 = 0;
-    let mut registers = Registers { acc: 0, sr: 0 };
+    let mut registers = Registers { acc: 0, flags: 0 };
     let mut lines: u32 = 0;
     let mut clocks: u64 = 0;
     while lines < asked {
@@ -156,8 +156,8 @@ fn run_accepted(deck: &[u8], cells: &mut [u8], asked: u32) -> Reached
             };
         }
         let operation = operation_at(deck, position);
-        clocks += cost(operation, registers.sr) as u64;
-        position = next(operation, position, registers.sr);
+        clocks += cost(operation, registers.flags) as u64;
+        position = next(operation, position, registers.flags);
         registers = apply(operation, registers, cells);
         lines += 1;
     }
@@ -201,7 +201,7 @@ pub fn run_lines(deck: &[u8], cells: &mut [u8], asked: u32) -> LinesRun
         lines: reached.lines,
         clocks: reached.clocks,
         acc: registers.acc,
-        flags: registers.sr,
+        flags: registers.flags,
         position: reached.position,
         pc: ProgramAddress((address_of(deck, reached.position) % 256) as u8),
     }

@@ -8,7 +8,8 @@ use borrow.Author.Needs.{needs}
 use denote.Ref.{now}
 use Rattle.core.specs.Refusal.{accepted, firstBroken}
 use Rattle.deck.specs.Bytes.{lineCount}
-use Rattle.deck.specs.Deck.{each, checksOfLine, lineRefusal}
+use Rattle.deck.specs.Deck.{each, checksOfLine}
+use Rattle.deck.specs.Private.{lineRefusal}
 use Rattle.deck.proofs.Parts.{next-one, decides, of-line}
 use Rattle.deck.proofs.Reading.{accepted-line, refused-line, refused-not-0}
 use Rattle.deck.proofs.check.lines_refusal.Statement.{statement}

@@ -12,8 +12,9 @@ use denote.Ref.{now}
 use lib.Dec.{eqb}
 use Rattle.core.specs.Refusal.{accepted, firstBroken}
 use Rattle.deck.specs.Bytes.{labelLine}
-use Rattle.deck.specs.Deck.{readAs, recordChecks}
+use Rattle.deck.specs.Deck.{recordChecks}
 use Rattle.deck.specs.Operation.{rowOf, labelNumberAndValues, lookedUp}
+use Rattle.deck.specs.Private.{readAs}
 use Rattle.deck.specs.declared.label.Label.{Label}
 use Rattle.deck.specs.declared.operation.Operation.{Operation}
 use Rattle.deck.proofs.Rows.{seconds-of-jump, operands-of-jump, missing, found}

@@ -1,8 +1,8 @@
 -- `deck::line::read_line` meets its promise: the three bytes are those of the line's record, and the deck ends after the last record.
 -- Assumes nothing.
 use borrow.Author.Needs.{needs}
-use Rattle.deck.specs.Deck.{lineRefusal}
 use Rattle.deck.specs.Operation.{operationAt}
+use Rattle.deck.specs.Private.{lineRefusal}
 use Rattle.deck.proofs.line.read_line.Statement.{statement}
 use Rattle.deck.proofs.line.read_line.Tie as tie
 

@@ -4,7 +4,7 @@ use mathlib.Core.Path.{_∙_}
 use native.Mathlib.Omega.{arith}
 use borrow.Author.Needs.{needs}
 use Rattle.core.proofs.Effects.{computed-in-range, on-immediate}
-use Rattle.deck.specs.Operation.{Fits}
+use Rattle.deck.specs.Private.{Fits}
 use Rattle.deck.specs.declared.operation.Operation.{Operation}
 use Rattle.deck.proofs.lines.apply.Statement.{statement}
 use Rattle.deck.proofs.lines.apply.Tie as tie
@@ -25,7 +25,7 @@ returns-2 c =
     let x = start .args in
     let told = c .before .before .operation2 .given in
     let fits : Fits (Operation.I (told .0 .0) (told .0 .1 .0)) = (rw (told .1) at (start .pre .0)) in
-    let u = c .unit .ensures ∙ computed-in-range (told .0 .0) (x .before .acc) _ (x .before .sr) (omega (arith, fits .0)) (start .pre .1) in
+    let u = c .unit .ensures ∙ computed-in-range (told .0 .0) (x .before .acc) _ (x .before .flags) (omega (arith, fits .0)) (start .pre .1) in
     rw (told .1, on-immediate, u)
 
 returns-3 : tie.Need-returns-3

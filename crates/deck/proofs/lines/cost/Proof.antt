@@ -27,8 +27,8 @@ returns-4 c = rw (c .enum-told4 .given .1)
 returns-5 : tie.Need-returns-5
 returns-5 c =
     let told = c .before .before .before .operation .given in
-    let sr = c .before .before .before .before .before .args .sr in
-    c .chosen .ensures ∙ rw (told .1, c .before .is-flag-set .ensures) (thrice (flag (told .0 .0) sr))
+    let flags = c .before .before .before .before .before .args .flags in
+    c .chosen .ensures ∙ rw (told .1, c .before .is-flag-set .ensures) (thrice (flag (told .0 .0) flags))
 
 returns-6 : tie.Need-returns-6
 returns-6 c = rw (c .enum-told5 .given .1)

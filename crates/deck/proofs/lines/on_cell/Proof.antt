@@ -11,14 +11,14 @@ returns : tie.Need-returns
 returns c =
     let start = c .before .before .before .before .before in
     let x = start .args in
-    let u = c .before .unit .ensures ∙ computed-in-range (x .mode) (x .before .acc) _ (x .before .sr) (start .pre .0) (start .pre .2) in
+    let u = c .before .unit .ensures ∙ computed-in-range (x .mode) (x .before .acc) _ (x .before .flags) (start .pre .0) (start .pre .2) in
     rw (on-cell, eq-eqb _ _ (c .if1 .taken), u)
 
 returns-2 : tie.Need-returns-2
 returns-2 c =
     let start = c .before .before .before .before .before in
     let x = start .args in
-    let u = c .before .unit .ensures ∙ computed-in-range (x .mode) (x .before .acc) _ (x .before .sr) (start .pre .0) (start .pre .2) in
+    let u = c .before .unit .ensures ∙ computed-in-range (x .mode) (x .before .acc) _ (x .before .flags) (start .pre .0) (start .pre .2) in
     rw (on-cell, ne-eqb _ _ (c .if1 .left), u)
 
 pub on-cell-spec : {M : Type 1} → statement M

@@ -11,8 +11,9 @@ use lib.Dec.{lit<}
 use lib.ListN.{length}
 use Rattle.core.specs.Rule.{Visible}
 use Rattle.deck.specs.Bytes.{lineCount}
-use Rattle.deck.specs.Lines.{lineState, seen, lineEffect, lineNext, executed, atStart, afterLines, linesOf, clocksOf, Reaches}
+use Rattle.deck.specs.Lines.{lineState, lineEffect, lineNext, executed, atStart, afterLines, linesOf, clocksOf}
 use Rattle.deck.specs.Operation.{operationAt, program}
+use Rattle.deck.specs.Private.{seen, Reaches}
 use Rattle.deck.specs.declared.lines.Reached.{Reached}
 use Rattle.deck.specs.declared.lines.Registers.{Registers}
 use Rattle.deck.proofs.Runs.{goes-on, one-line-more, clocks-more, stopped, stopped-lines, stopped-clocks, executed-le, lands-next, line-flags, line-one}
@@ -24,7 +25,7 @@ use Rattle.deck.proofs.lines.run_accepted.Tie as tie
 record Standing (deck start : List ℕ) (asked position : ℕ) (registers : Registers) (cells : List ℕ) (lines clocks : ℕ) : Type 0 where
   most : lines ≤ asked
   bound : clocks ≤ 6 * lines
-  flags : registers .sr < 16
+  flags : registers .flags < 16
   sixteen : length cells ≡ 16
   at : lineState position (seen registers cells) ≡ afterLines (program deck) lines (atStart start)
   counted : lines ≡ linesOf (program deck) lines (atStart start)
@@ -36,7 +37,7 @@ module _ (deck start : List ℕ) (asked position : ℕ) (registers : Registers) 
   -- one line more
   onward : Sound deck → position < lineCount deck → lines < asked → (after : Registers) (left : List ℕ) (next cost : ℕ)
       → seen after left ≡ lineEffect (operationAt deck position) (seen registers cells)
-      → next ≡ lineNext (operationAt deck position) position (registers .sr) → cost ≡ 3 * executed (operationAt deck position) (registers .sr)
+      → next ≡ lineNext (operationAt deck position) position (registers .flags) → cost ≡ 3 * executed (operationAt deck position) (registers .flags)
       → Standing deck start asked next after left (lines + 1) (clocks + cost)
   onward d h m after left next cost seen' next' cost' =
       let o = operationAt deck position in
@@ -44,13 +45,13 @@ module _ (deck start : List ℕ) (asked position : ℕ) (registers : Registers) 
       let at-start = atStart start in
       record {
         most = omega arith;
-        bound = omega (arith, s .bound, cost', executed-le o (registers .sr));
+        bound = omega (arith, s .bound, cost', executed-le o (registers .flags));
         flags = rw (ap (λ (v : Visible). v .sr) seen') (line-flags o (seen registers cells) (s .flags));
         sixteen = ap (λ (v : Visible). length (v .cells)) seen' ∙ line-one o (seen registers cells) .as-many ∙ s .sixteen;
         at = rw (next', seen') (goes-on (program deck) at-start lines before (s .at) h);
         counted = one-line-more (program deck) at-start lines before (s .at) h lines (s .counted);
         cost = rw cost' (clocks-more (program deck) at-start lines before (s .at) h clocks (s .cost));
-        inside = rw next' (lands-next o (lineCount deck) position (registers .sr) (line-lands deck d position h) h);
+        inside = rw next' (lands-next o (lineCount deck) position (registers .flags) (line-lands deck d position h) h);
       }
 
   abbrev reached : Reached
@@ -116,7 +117,7 @@ operation-at-requires c κs =
 add-clocks : tie.Need-add-clocks Inv-loop μ-loop
 add-clocks c =
     let l = c .before .before .before .before .loop in
-    omega (arith, l .inv .bound, l .inv .most, c .cost .ensures, executed-le (c .before .operation-at .result) (l .registers .sr))
+    omega (arith, l .inv .bound, l .inv .most, c .cost .ensures, executed-le (c .before .operation-at .result) (l .registers .flags))
 
 next-requires : tie.Need-next-requires Inv-loop μ-loop
 next-requires c κs =
@@ -164,7 +165,7 @@ run-accepted-spec =
     returns
     operation-at-requires
     (λ c κs. search needs)
-    (λ c. omega (arith, c .cost .ensures, executed-le (c .before .operation-at .result) (c .before .before .before .before .loop .registers .sr)))
+    (λ c. omega (arith, c .cost .ensures, executed-le (c .before .operation-at .result) (c .before .before .before .before .loop .registers .flags)))
     add-clocks
     next-requires
     apply-requires

@@ -6,7 +6,7 @@ use native.Mathlib.Omega.{arith}
 use borrow.Author.Needs.{needs}
 use lib.ListN.{length, take, length-set}
 use lib.Seq.{take-all}
-use Rattle.deck.specs.Translate.{overwritten}
+use Rattle.deck.specs.Private.{overwritten}
 use Rattle.deck.proofs.ListingText.{next-byte}
 use Rattle.deck.proofs.Writing.{none}
 use Rattle.deck.proofs.listing.put.Statement.{statement}

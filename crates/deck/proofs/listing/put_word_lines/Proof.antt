@@ -6,7 +6,7 @@ use native.Mathlib.Omega.{arith}
 use borrow.Author.Needs.{needs}
 use lib.ListN.{length}
 use Rattle.deck.specs.Listing.{wordLines}
-use Rattle.deck.specs.Translate.{overwritten}
+use Rattle.deck.specs.Private.{overwritten}
 use Rattle.deck.proofs.ListingText.{next-line}
 use Rattle.deck.proofs.Writing.{none}
 use Rattle.deck.proofs.listing.put_word_lines.Statement.{statement}
