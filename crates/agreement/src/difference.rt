@@ -1,8 +1,9 @@
 // What a run of lines and a run of clocks came to, compared.
 ghost use mathlib.Core.Path.{_≡_};
-ghost use mathlib.Core.Bool.{cond};
+ghost use mathlib.Core.Bool.{cond, not};
 ghost use lib.ListN.{length};
 ghost use Rattle.core.specs.Instruction.{isFetch};
+ghost use Rattle.agreement.specs.declared.difference.Difference.{Difference};
 ghost use Rattle.agreement.specs.Difference.{firstDiffering, differenceOfCells, firstDifference};
 use core::control::Stage;
 use core::machine::Clocked;
@@ -72,13 +73,14 @@ fn or_else(differs: bool, difference: Difference, after: Difference) -> Differen
     if differs { difference } else { after }
 }
 
-fn is_fetch(stage: Stage) -> bool
-    ensures { λ r. ⌜ r ≡ isFetch stage ⌝ }
+// A stage that is not FETCH, or else what comes after.
+fn stage_or_else(stage: Stage, after: Difference) -> Difference
+    ensures { λ r. ⌜ r ≡ cond (not (isFetch stage)) Difference.Stage after ⌝ }
 {
     match stage {
-        Stage::Fetch => true,
-        Stage::Decode => false,
-        Stage::Execute => false,
+        Stage::Fetch => after,
+        Stage::Decode => Difference::Stage,
+        Stage::Execute => Difference::Stage,
     }
 }
 
@@ -97,7 +99,7 @@ pub(crate) fn first_difference(
     let by_lines = lines.pc.0;
     let by_clocks = machine.pc.0;
     let from_cells = difference_of_cells(cells, others);
-    let from_stage = or_else(!is_fetch(stage), Difference::Stage, from_cells);
+    let from_stage = stage_or_else(stage, from_cells);
     let counter = Difference::Counter {
         by_lines,
         by_clocks,

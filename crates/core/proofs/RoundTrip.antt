@@ -15,6 +15,7 @@ use Rattle.core.specs.declared.word.Decoded.{Decoded}
 use Rattle.core.specs.declared.word.Instruction.{Instruction}
 use Rattle.core.specs.declared.word.Instruction.the-variants.{S, Goto, M, JumpIf, I}
 use Rattle.core.proofs.Determined.{decode-determined}
+use Rattle.core.proofs.Effects.{encoded-in-range}
 use Rattle.core.proofs.Field.{neighbours}
 use Rattle.core.proofs.Kind.{at-S, at-Goto, at-M, at-JumpIf, at-I, Kind, is-S, is-Goto, is-M, is-JumpIf, is-I, kind}
 use Rattle.core.proofs.Range.{FieldsFit, fields-fit}
@@ -27,10 +28,6 @@ word-accepted word h = simp (le-ltb 4095 word h)
 word-refused : (word : ℕ) → 4095 < word → DecodePromise word (Decoded.Refused wordAbove4095)
 unfolding decoded
 word-refused word h = simp (lt-ltb 4095 word h)
-
-instruction-accepted : (i : Instruction) → inRange i ≡ true → encoded i ≡ encodedAs accepted (wordOf i)
-unfolding encoded
-instruction-accepted i h = simp h
 
 instruction-refused : (i : Instruction) → inRange i ≡ false → encoded i ≡ encodedAs fieldOutOfRange 0
 unfolding encoded
@@ -55,7 +52,7 @@ decoder-refuses word n = (there, λ h. rw (h .1) (word-refused word (h .0)))
 pub encoder-refuses : (i : Instruction)
     → ((encoded i .refusal ≡ accepted) ↔ (inRange i ≡ true)) × ((encoded i .refusal ≡ fieldOutOfRange) ↔ (inRange i ≡ false))
 encoder-refuses i = (
-  (accepts (inRange i) refl, λ h. rw (instruction-accepted i h)),
+  (accepts (inRange i) refl, λ h. rw (encoded-in-range i h)),
   (refuses (inRange i) refl, λ h. rw (instruction-refused i h)),
 )
   where
@@ -64,7 +61,7 @@ encoder-refuses i = (
     accepts false h e = let z : _≡_ {A = ℕ} 14 0 = rw (instruction-refused i h) at e in absurd (omega arith)
 
     refuses : (t : Bool) → inRange i ≡ t → encoded i .refusal ≡ fieldOutOfRange → inRange i ≡ false
-    refuses true h e = let z : _≡_ {A = ℕ} 0 14 = rw (instruction-accepted i h) at e in absurd (omega arith)
+    refuses true h e = let z : _≡_ {A = ℕ} 0 14 = rw (encoded-in-range i h) at e in absurd (omega arith)
     refuses false h e = h
 
 -- an instruction is the one whose fields stand in a word
@@ -100,7 +97,7 @@ pub word-back : (word : ℕ) → word ≤ 4095
     → (i : Instruction) × DecodePromise word (Decoded.Accepted i) × EncodePromise i (encodedAs accepted word)
 word-back word h =
     let s = stands word h (kind word) in
-    (instructionAt word, word-accepted word h, sym (rw (s .1) at (instruction-accepted (instructionAt word) (s .0))))
+    (instructionAt word, word-accepted word h, sym (rw (s .1) at (encoded-in-range (instructionAt word) (s .0))))
 
 -- the fields of an instruction in range, cut from its word
 pub cut-again : (i : Instruction) → FieldsFit i → (wordOf i ≤ 4095) × (instructionAt (wordOf i) ≡ i)
@@ -136,4 +133,4 @@ pub instruction-back : (i : Instruction) → inRange i ≡ true
     → (word : ℕ) × EncodePromise i (encodedAs accepted word) × DecodePromise word (Decoded.Accepted i)
 instruction-back i h =
     let c = cut-again i (fields-fit i h) in
-    (wordOf i, sym (instruction-accepted i h), rw (c .1) at (word-accepted (wordOf i) (c .0)))
+    (wordOf i, sym (encoded-in-range i h), rw (c .1) at (word-accepted (wordOf i) (c .0)))

@@ -9,22 +9,20 @@ returns : tie.Need-returns
 unfolding firstDifference
 returns c =
     let from-flags = c .before .before .before .before .before in
-    let from-stage = from-flags .before .before .before .before in
+    let from-counter = from-flags .before .before .before in
     simp (
-      c .or-else5 .ensures,
-      c .before .before .or-else4 .ensures,
-      from-flags .or-else3 .ensures,
-      from-flags .before .before .before .or-else2 .ensures,
-      from-stage .or-else .ensures,
-      from-stage .before .is-fetch .ensures,
-      from-stage .before .before .difference-of-cells .ensures,
+      c .or-else4 .ensures,
+      c .before .before .or-else3 .ensures,
+      from-flags .or-else2 .ensures,
+      from-counter .or-else .ensures,
+      from-counter .before .stage-or-else .ensures,
+      from-counter .before .before .difference-of-cells .ensures,
     )
 
 pub first-difference-spec : {M : Type 1} → statement M
 first-difference-spec =
     tie.close
     (tie.spec
-    (λ c κs. search needs)
     (λ c κs. search needs)
     (λ c κs. search needs)
     (λ c κs. search needs)
