@@ -1,0 +1,60 @@
+-- The definitions of decks, computed: document 01's "Numbers to meet" that speak of decks.
+-- Assumes nothing.
+use Prim.Native.Nat.{ℕ, zero, suc}
+use mathlib.Core.List.{List, [], _∷_}
+use mathlib.Core.Path.{_≡_, refl}
+use lib.ListN.{getD, replicate}
+use Rattle.core.specs.Refusal.{accepted, deckTooShort, linesAbove256, wordsAbove256}
+use Rattle.core.specs.Rule.{effect}
+use Rattle.core.specs.Unit.{table, unitResult, unitFlags}
+use Rattle.core.specs.Word.{programAddress, wordOf, flag}
+use Rattle.deck.specs.Deck.{deckRefusal}
+use Rattle.deck.specs.Image.{address, totalWords, imageUpTo, image}
+use Rattle.deck.specs.Lines.{lineStep, lineExecuted, lineTally, atStart, afterLines, linesOf, clocksOf, ranAs}
+use Rattle.deck.specs.Operation.{rowOf, operationAt, Program, program}
+use Rattle.deck.specs.declared.lines.LinesRun.{LinesRun}
+
+-- "Deck 00 00 00: accepted, W = 0. Empty deck: 1. Deck 00 01 01: 3."
+pub small-decks : (deckRefusal (0 ∷ 0 ∷ 0 ∷ []) ≡ accepted) × (totalWords (program (0 ∷ 0 ∷ 0 ∷ [])) ≡ 0) × (deckRefusal [] ≡ deckTooShort)
+    × (deckRefusal (0 ∷ 1 ∷ 1 ∷ []) ≡ linesAbove256)
+unfolding deckRefusal address
+small-decks = (refl, refl, refl, refl)
+
+-- "For 01 01 00 03 00 13 00 03 11 00 01 1A 03 00"
+abbrev example : List ℕ
+example = 0x01 ∷ 0x01 ∷ 0x00 ∷ 0x03 ∷ 0x00 ∷ 0x13 ∷ 0x00 ∷ 0x03 ∷ 0x11 ∷ 0x00 ∷ 0x01 ∷ 0x1A ∷ 0x03 ∷ 0x00 ∷ []
+
+pub example-image : (deckRefusal example ≡ accepted) × (image (program example) ≡ 0xB03 ∷ 0x901 ∷ 0x704 ∷ 0x101 ∷ [])
+unfolding deckRefusal address imageUpTo operationAt rowOf wordOf
+example-image = (refl, refl)
+
+-- "The line runner stops this deck after 7 lines and 27 clocks with Acc 0, flags 8, PC 4."
+abbrev ran : ℕ → Program → LinesRun
+ran asked p =
+    let start = atStart (replicate 16 0) in
+    ranAs p (linesOf p asked start) (clocksOf p asked start) (afterLines p asked start)
+
+pub example-run : ran 9 (program example)
+    ≡ record { refusal = accepted; lines = 7; clocks = 27; acc = 0; flags = 8; position = 3; pc = programAddress 4 }
+unfolding address lineStep lineExecuted lineTally operationAt rowOf effect flag table unitResult unitFlags
+example-run = refl
+
+-- "One label, at line 0.": so many NOP lines, then one operation 26 on Z where there are others.
+abbrev lines-of : ℕ → List ℕ → List ℕ
+lines-of zero others = others
+lines-of (suc n) others = 0x1B ∷ 0x00 ∷ 0x00 ∷ lines-of n others
+
+-- "256 NOP lines: accepted. 254, then one operation 26 on Z: accepted, word 254 is 700. 255, then one operation 26: 8."
+abbrev full : List ℕ
+full = 0x01 ∷ 0x00 ∷ 0x00 ∷ 0x00 ∷ 0x01 ∷ lines-of 256 []
+
+abbrev last-skips : List ℕ
+last-skips = 0x01 ∷ 0x00 ∷ 0x00 ∷ 0xFF ∷ 0x00 ∷ lines-of 254 (0x1A ∷ 0x03 ∷ 0x00 ∷ [])
+
+abbrev too-many : List ℕ
+too-many = 0x01 ∷ 0x00 ∷ 0x00 ∷ 0x00 ∷ 0x01 ∷ lines-of 255 (0x1A ∷ 0x03 ∷ 0x00 ∷ [])
+
+pub large-decks : (deckRefusal full ≡ accepted) × (deckRefusal last-skips ≡ accepted) × (getD (image (program last-skips)) 254 0 ≡ 0x700)
+    × (deckRefusal too-many ≡ wordsAbove256)
+unfolding deckRefusal address imageUpTo operationAt rowOf wordOf
+large-decks = (refl, refl, refl, refl)
