@@ -234,6 +234,14 @@ def agree(deck, cells, asked):
     assert clocked_cells == run.cells, deck.hex()
 
 
+def agreement(deck, asked):
+    """The text of the program `agree`, whose runs begin with cells of 0."""
+    run = run_lines(deck, [0] * 16, asked)
+    if run.refusal != 0:
+        return f"refused {run.refusal}\n".encode()
+    return f"agree: lines {run.lines}, clocks {run.clocks}\n".encode()
+
+
 # ---------------------------------------------------------------- random decks
 
 

@@ -3,7 +3,7 @@
 use Prim.Native.Nat.{ℕ, zero, suc}
 use mathlib.Core.List.{List, [], _∷_}
 use mathlib.Core.Path.{_≡_, refl}
-use lib.ListN.{getD, replicate}
+use lib.ListN.{drop, replicate}
 use Rattle.core.specs.Refusal.{accepted, deckTooShort, linesAbove256, wordsAbove256}
 use Rattle.core.specs.Rule.{effect}
 use Rattle.core.specs.Unit.{table, unitResult, unitFlags}
@@ -54,7 +54,11 @@ last-skips = 0x01 ∷ 0x00 ∷ 0x00 ∷ 0xFF ∷ 0x00 ∷ lines-of 254 (0x1A ∷
 abbrev too-many : List ℕ
 too-many = 0x01 ∷ 0x00 ∷ 0x00 ∷ 0x00 ∷ 0x01 ∷ lines-of 255 (0x1A ∷ 0x03 ∷ 0x00 ∷ [])
 
-pub large-decks : (deckRefusal full ≡ accepted) × (deckRefusal last-skips ≡ accepted) × (getD (image (program last-skips)) 254 0 ≡ 0x700)
-    × (deckRefusal too-many ≡ wordsAbove256)
-unfolding deckRefusal address imageUpTo operationAt rowOf wordOf
-large-decks = (refl, refl, refl, refl)
+pub large-decks : (deckRefusal full ≡ accepted) × (deckRefusal last-skips ≡ accepted) × (deckRefusal too-many ≡ wordsAbove256)
+unfolding deckRefusal address operationAt rowOf
+large-decks = (refl, refl, refl)
+
+-- "NOP becomes 000"; "word 254 is 700"
+pub last-words : drop 253 (image (program last-skips)) ≡ 0x000 ∷ 0x700 ∷ 0x100 ∷ []
+unfolding address imageUpTo operationAt rowOf wordOf
+last-words = refl

@@ -1,5 +1,6 @@
-"""Holds the program `listing` to the model of its text, `decks.listing`, on random
-and damaged decks: `python3 tests/hold_listing.py [COUNT [SEED]]`.
+"""Holds the programs `listing` and `agree` to the model of their texts, `decks.listing`
+and `decks.agreement`, on random and damaged decks:
+`python3 tests/hold_programs.py [COUNT [SEED]]`.
 """
 
 import argparse
@@ -19,14 +20,14 @@ from pathlib import Path
 
 import decks
 
-PROGRAM = Path(__file__).resolve().parent.parent / "target" / "bin" / "listing"
+PROGRAMS = Path(__file__).resolve().parent.parent / "target" / "bin"
 
 # In seconds: a program that takes longer over one deck is ended.
 LIMIT = 60
 
 
-def command():
-    """The program as `rt` runs it: under the kit's loader and C library, and by the
+def command(name, arguments):
+    """A program as `rt` runs it: under the kit's loader and C library, and by the
     kit's emulator where the kit has one, which is on processors that are not x86-64.
     """
     rt = Path(shutil.which("rt") or "/opt/rattle/bin/rt").resolve()
@@ -34,14 +35,15 @@ def command():
     toolchain = kit / "on" / platform.machine() / "toolchain"
     loader = toolchain / "lib" / "ld-linux-x86-64.so.2"
     emulator = toolchain / "bin" / "qemu-x86_64"
+    program = [PROGRAMS / name, *arguments]
     if not loader.exists():
-        return [PROGRAM]
+        return program
     return [*([emulator] if emulator.exists() else []),
-            loader, "--library-path", loader.parent, PROGRAM]
+            loader, "--library-path", loader.parent, *program]
 
 
-def started(standard_input):
-    return subprocess.Popen(command(), bufsize=0, stdin=standard_input, stdout=subprocess.PIPE)
+def started(words, standard_input):
+    return subprocess.Popen(words, bufsize=0, stdin=standard_input, stdout=subprocess.PIPE)
 
 
 def ended(process, deck=None):
@@ -54,18 +56,18 @@ def ended(process, deck=None):
     return process.returncode, written
 
 
-# Three ways to hand the deck to the program.
+# Three ways to hand the deck to a program.
 
 
-def at_once(deck, generator):
-    return ended(started(subprocess.PIPE), deck)
+def at_once(words, deck, generator):
+    return ended(started(words, subprocess.PIPE), deck)
 
 
-def from_a_file(deck, generator):
+def from_a_file(words, deck, generator):
     with tempfile.TemporaryFile() as file:
         file.write(deck)
         file.seek(0)
-        return ended(started(file))
+        return ended(started(words, file))
 
 
 def unread(pipe):
@@ -79,9 +81,9 @@ def wait_until_read(process):
         time.sleep(0.0002)
 
 
-def in_pieces(deck, generator):
+def in_pieces(words, deck, generator):
     """A piece is written when the one before it was read, so each read is short."""
-    process = started(subprocess.PIPE)
+    process = started(words, subprocess.PIPE)
     while len(deck) > 0:
         size = generator.choice((1, 2, 7, generator.randrange(1, 500)))
         try:
@@ -96,16 +98,25 @@ def in_pieces(deck, generator):
 WAYS = (at_once, from_a_file, in_pieces)
 
 
-def holds(deck, way, generator):
+def holds(words, deck, expected, way, generator):
     """Whether the program wrote what the model writes; if not, says so."""
-    expected = decks.listing(deck)
-    status, written = way(deck, generator)
+    status, written = way(words, deck, generator)
     if written == expected and status >= 0:
         return True
+    print(f"{' '.join(map(str, words))}")
     print(f"deck of {len(deck)} bytes, {way.__name__}: {deck.hex()}")
     print(f"expected: {expected}")
     print(f"came, with status {status}: {written}")
     return False
+
+
+def listing_holds(deck, way, generator):
+    return holds(command("listing", []), deck, decks.listing(deck), way, generator)
+
+
+def agree_holds(deck, way, generator):
+    asked = generator.choice((0, 1, 7, generator.randrange(2000)))
+    return holds(command("agree", [str(asked)]), deck, decks.agreement(deck, asked), way, generator)
 
 
 def missing(held):
@@ -118,7 +129,8 @@ def hold(count, seed):
     held = Counter()
     for number in range(count):
         deck = decks.any_deck(generator)
-        if not holds(deck, WAYS[number % len(WAYS)], generator):
+        way = WAYS[number % len(WAYS)]
+        if not (listing_holds(deck, way, generator) and agree_holds(deck, way, generator)):
             return 1
         held[decks.check(deck)] += 1
     print(f"{sum(held.values())} decks held: {held[0]} accepted,",
@@ -130,12 +142,12 @@ def hold(count, seed):
 
 
 def main():
-    parser = argparse.ArgumentParser(description="Holds the program listing to its model.")
+    parser = argparse.ArgumentParser(description="Holds the programs to their model.")
     parser.add_argument("count", nargs="?", type=int, default=2000, help="of decks")
     parser.add_argument("seed", nargs="?", type=int, default=1)
     asked = parser.parse_args()
-    if not PROGRAM.is_file():
-        print(f"no program {PROGRAM}: `rt check` in the repository's root builds it")
+    if not all((PROGRAMS / name).is_file() for name in ("listing", "agree")):
+        print(f"no programs in {PROGRAMS}: `rt check` in the repository's root builds them")
         return 2
     return hold(asked.count, asked.seed)
 
