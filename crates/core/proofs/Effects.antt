@@ -1,35 +1,22 @@
--- What the layers above go by: what the unit and the encoder answer where nothing is refused, and what each act does to what is seen.
+-- What the layers above go by: what each act does to what is seen, and where the program goes on after it.
 -- Assumes nothing.
 use Prim.Native.Nat.{ℕ, _<_, _%_, _+_}
-use mathlib.Core.Bool.{true, cond}
+use mathlib.Core.Bool.{cond}
 use mathlib.Core.List.{List}
 use mathlib.Core.Path.{_≡_, refl, ap}
 use native.Mathlib.Nat.{mod-add-mod}
-use native.Mathlib.Omega.{arith}
-use borrow.Author.Tests.{le-ltb}
 use lib.Dec.{eqb}
 use lib.ListN.{length-set, set}
 use lib.Seq.{getD-set-other}
 use Rattle.core.specs.Rule.{Act, Visible, toAcc, onCell, effect, next, stepped, OneCell}
-use Rattle.core.specs.Unit.{unitResult, unitFlags, computed, computedAs}
-use Rattle.core.specs.Word.{inRange, wordOf, encoded, encodedAs, flag, programAddress}
+use Rattle.core.specs.Word.{flag, programAddress}
 use Rattle.core.specs.declared.address.DataAddress.{DataAddress}
 use Rattle.core.specs.declared.address.ProgramAddress.{ProgramAddress}
 use Rattle.core.specs.declared.machine.Machine.{Machine}
-use Rattle.core.specs.declared.word.Instruction.{Instruction}
 use Rattle.core.proofs.Choice.{either}
 use Rattle.core.proofs.Running.{flags-lt}
 
--- an instruction in range is encoded as its word
-pub encoded-in-range : (i : Instruction) → inRange i ≡ true → encoded i ≡ encodedAs 0 (wordOf i)
-unfolding encoded
-encoded-in-range i e = rw e
-
--- a mode and an SR in range are computed by their row
-pub computed-in-range : (mode a b sr : ℕ) → mode < 16 → sr < 16 → computed mode a b sr ≡ computedAs 0 (unitResult mode a b) (unitFlags mode a b sr)
-unfolding computed
-computed-in-range mode a b sr h k = rw (le-ltb 15 mode (omega arith), le-ltb 15 sr (omega arith))
-
+-- I writes Acc
 pub on-immediate : (mode b : ℕ) (v : Visible) → effect (Act.OnImmediate mode b) v ≡ toAcc mode b v
 unfolding effect
 on-immediate mode b v = refl

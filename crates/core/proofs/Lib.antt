@@ -1,3 +1,4 @@
+pub mod Answered
 pub mod Choice
 pub mod ClockTable
 pub mod Determined

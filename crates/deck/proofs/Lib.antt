@@ -6,6 +6,7 @@ pub mod Instructions
 pub mod LineCode
 pub mod ListingDeck
 pub mod ListingText
+pub mod Lookup
 pub mod Numbers
 pub mod OneLine
 pub mod Parts

@@ -1,19 +1,14 @@
--- The rows of the table of operations, by the operation's number; and what a lookup of a label tells.
+-- The rows of the table of operations, by the operation's number.
 -- Assumes nothing.
-use Prim.Native.Nat.{ℕ, _-_, _≤_, _<_}
+use Prim.Native.Nat.{ℕ, _≤_, _<_}
 use mathlib.Core.Bool.{Bool, true, false, cond}
 use mathlib.Core.List.{List}
-use mathlib.Core.Path.{_≡_, refl, sym, ap, _∙_}
-use native.Mathlib.Nat.{suc-ne-zero}
+use mathlib.Core.Path.{_≡_, refl}
 use native.Mathlib.Omega.{arith}
 use borrow.Author.Tests.{eqb-true, eqb-false}
 use lib.Dec.{eqb, ltb}
-use lib.ListN.{getD}
-use Rattle.core.specs.Word.{NumberAndValues}
-use Rattle.deck.specs.Bytes.{labelCount, labelLine}
-use Rattle.deck.specs.Operation.{rowOf, words, labelNumberAndValues, lookedUp}
-use Rattle.deck.specs.declared.label.Label.{Label}
-use Rattle.deck.proofs.LineCode.{second}
+use Rattle.deck.specs.Bytes.{labelCount}
+use Rattle.deck.specs.Operation.{rowOf, words}
 
 -- a jump is operation 24, 25 or 26
 by-jump : (P : ℕ → Type 0) → P 24 → P 25 → P 26 → (operation : ℕ) → 24 ≤ operation → operation < 27 → P operation
@@ -56,23 +51,3 @@ words-by deck operation second operand false e = one-word deck operation second 
 pub words-of : (deck : List ℕ) (operation second operand : ℕ)
     → words (rowOf deck operation .means second operand) ≡ cond (eqb operation 26) 2 1
 words-of deck operation second operand = words-by deck operation second operand (eqb operation 26) refl
-
--- a lookup finds the label's line where the label is below K, and nothing elsewhere
-missing-by : (deck : List ℕ) (label : ℕ) (t : Bool) → ltb label (labelCount deck) ≡ t → labelNumberAndValues Label.Missing ≡ lookedUp deck label → t ≡ false
-unfolding lookedUp
-missing-by deck label true q e = absurd (suc-ne-zero 6 (ap (λ (a : NumberAndValues ℕ). a .number) (rw q at e)))
-missing-by deck label false q e = refl
-
-pub missing : (deck : List ℕ) (label : ℕ) (answer : Label) → answer ≡ Label.Missing → labelNumberAndValues answer ≡ lookedUp deck label
-    → ltb label (labelCount deck) ≡ false
-missing deck label answer e f = missing-by deck label _ refl (ap labelNumberAndValues (sym e) ∙ f)
-
-found-by : (deck : List ℕ) (label line : ℕ) (t : Bool) → ltb label (labelCount deck) ≡ t → labelNumberAndValues (Label.Line line) ≡ lookedUp deck label
-    → (t ≡ true) × (line ≡ labelLine deck label)
-unfolding lookedUp
-found-by deck label line true q e = (refl, ap (λ (a : NumberAndValues ℕ). getD (a .values) 0 0) (rw q at e))
-found-by deck label line false q e = absurd (suc-ne-zero 6 (sym (ap (λ (a : NumberAndValues ℕ). a .number) (rw q at e))))
-
-pub found : (deck : List ℕ) (label line : ℕ) (answer : Label) → answer ≡ Label.Line line → labelNumberAndValues answer ≡ lookedUp deck label
-    → (ltb label (labelCount deck) ≡ true) × (line ≡ labelLine deck label)
-found deck label line answer e f = found-by deck label line _ refl (ap labelNumberAndValues (sym e) ∙ f)

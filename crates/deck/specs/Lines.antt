@@ -9,7 +9,7 @@ use lib.ListN.{length}
 use Rattle.core.specs.Iterate.{iterate, total}
 use Rattle.core.specs.Refusal.{accepted, firstBroken, check, notSixteenCells}
 use Rattle.core.specs.Rule.{Act, Visible, effect}
-use Rattle.core.specs.Word.{flag}
+use Rattle.core.specs.Word.{programAddress, flag}
 use Rattle.deck.specs.Deck.{deckChecks}
 use Rattle.deck.specs.Image.{counterAt}
 use Rattle.deck.specs.Operation.{Program, program}
@@ -80,8 +80,7 @@ lineTally p s = cond (running p s) 1 0
 abbrev pub atStart : List ℕ → LineState
 atStart cells = lineState 0 (record { acc = 0; sr = 0; cells = cells })
 
--- after so many lines asked for: where the run stands, the lines that it ran, the clocks that they cost, the words that they
--- executed
+-- after so many lines asked for: where the run stands; the lines that it ran, the clocks that they cost and the words that they executed
 abbrev pub afterLines : Program → ℕ → LineState → LineState
 afterLines p asked s = iterate (lineStep p) asked s
 
@@ -114,7 +113,7 @@ ranAs p lines clocks s =
 -- "A refusal returns its number; .. other result fields are 0, cells and output are unchanged."
 abbrev pub noLines : ℕ → LinesRun
 noLines number =
-    record { refusal = number; lines = 0; clocks = 0; acc = 0; flags = 0; position = 0; pc = record { 0 = 0 } }
+    record { refusal = number; lines = 0; clocks = 0; acc = 0; flags = 0; position = 0; pc = programAddress 0 }
 
 -- what `run_lines` promises of its answer and of the cells: ".. the cells hold what the lines left"
 abbrev pub LinesPromise : ℕ → List ℕ → List ℕ → LinesRun → List ℕ → Type 0

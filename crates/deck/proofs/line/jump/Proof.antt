@@ -17,7 +17,8 @@ use Rattle.deck.specs.Operation.{rowOf, labelNumberAndValues, lookedUp}
 use Rattle.deck.specs.Private.{readAs}
 use Rattle.deck.specs.declared.label.Label.{Label}
 use Rattle.deck.specs.declared.operation.Operation.{Operation}
-use Rattle.deck.proofs.Rows.{seconds-of-jump, operands-of-jump, missing, found}
+use Rattle.deck.proofs.Lookup.{missing, found}
+use Rattle.deck.proofs.Rows.{seconds-of-jump, operands-of-jump}
 use Rattle.deck.proofs.line.jump.Statement.{statement}
 use Rattle.deck.proofs.line.jump.Tie as tie
 

@@ -3,7 +3,8 @@
 use mathlib.Core.Path.{_∙_}
 use native.Mathlib.Omega.{arith}
 use borrow.Author.Needs.{needs}
-use Rattle.core.proofs.Effects.{computed-in-range, on-immediate}
+use Rattle.core.proofs.Answered.{computed-in-range}
+use Rattle.core.proofs.Effects.{on-immediate}
 use Rattle.deck.specs.Private.{Fits}
 use Rattle.deck.specs.declared.operation.Operation.{Operation}
 use Rattle.deck.proofs.lines.apply.Statement.{statement}

@@ -3,7 +3,8 @@
 use mathlib.Core.Path.{_∙_}
 use borrow.Author.Needs.{needs}
 use borrow.Author.Tests.{eq-eqb, ne-eqb}
-use Rattle.core.proofs.Effects.{computed-in-range, on-cell}
+use Rattle.core.proofs.Answered.{computed-in-range}
+use Rattle.core.proofs.Effects.{on-cell}
 use Rattle.deck.proofs.lines.on_cell.Statement.{statement}
 use Rattle.deck.proofs.lines.on_cell.Tie as tie
 

@@ -2,7 +2,7 @@
 -- Assumes nothing.
 use mathlib.Core.Path.{refl}
 use borrow.Author.Needs.{needs}
-use Rattle.core.proofs.Effects.{encoded-in-range}
+use Rattle.core.proofs.Answered.{encoded-in-range}
 use Rattle.deck.proofs.translate.write.Statement.{statement}
 use Rattle.deck.proofs.translate.write.Tie as tie
 
