@@ -14,8 +14,8 @@ use Rattle.core.specs.Word.{bits, programAddress, instructionAt, wordOf,
 use Rattle.core.specs.declared.word.Decoded.{Decoded}
 use Rattle.core.specs.declared.word.Instruction.{Instruction}
 use Rattle.core.specs.declared.word.Instruction.the-variants.{S, Goto, M, JumpIf, I}
-use Rattle.core.proofs.Determined.{decode-determined}
 use Rattle.core.proofs.Answered.{encoded-in-range}
+use Rattle.core.proofs.Determined.{decode-determined}
 use Rattle.core.proofs.Field.{neighbours}
 use Rattle.core.proofs.Kind.{at-S, at-Goto, at-M, at-JumpIf, at-I, Kind, is-S, is-Goto, is-M, is-JumpIf, is-I, kind}
 use Rattle.core.proofs.Range.{FieldsFit, fields-fit}

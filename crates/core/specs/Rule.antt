@@ -3,14 +3,14 @@
 use Prim.Native.Nat.{ℕ}
 use mathlib.Core.Bool.{cond}
 use mathlib.Core.List.{List}
-use mathlib.Core.Path.{_≡_}
 use mathlib.Core.Logic.{_≢_}
+use mathlib.Core.Path.{_≡_}
 use lib.Dec.{eqb}
 use lib.ListN.{length, getD, set}
 use Rattle.core.specs.Unit.{plus, unitResult, unitFlags}
 use Rattle.core.specs.Word.{programAddress, dataAddress, flag}
-use Rattle.core.specs.declared.address.ProgramAddress.{ProgramAddress}
 use Rattle.core.specs.declared.address.DataAddress.{DataAddress}
+use Rattle.core.specs.declared.address.ProgramAddress.{ProgramAddress}
 use Rattle.core.specs.declared.machine.Machine.{Machine}
 use Rattle.core.specs.declared.word.Instruction.{Instruction}
 use Rattle.core.specs.declared.word.Instruction.the-variants.{S, Goto, M, JumpIf, I}

@@ -3,9 +3,9 @@
 use Prim.Native.Nat.{_-_, _≤_}
 use native.Mathlib.Omega.{arith}
 use borrow.Author.Needs.{needs}
+use lib.ListN.{length}
 use Rattle.agree.proofs.asked.read.Statement.{statement}
 use Rattle.agree.proofs.asked.read.Tie as tie
-use lib.ListN.{length}
 
 abbrev Inv-loop : tie.InvT-loop
 Inv-loop digits number₀ place₀ number place = number ≤ 4294967295

@@ -1,6 +1,6 @@
 -- `agreement::agree::agree` meets its promise: without sixteen cells the deck's refusal or 12 is given, and else both ways begin with the cells that were handed in.
 -- Assumes nothing.
-use mathlib.Core.Path.{_≡_, sym, ap, _∙_}
+use mathlib.Core.Path.{sym, _∙_}
 use borrow.Author.Tests.{ne-eqb}
 use borrow.Author.Needs.{needs}
 use denote.Ref.{now}

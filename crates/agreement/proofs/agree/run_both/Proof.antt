@@ -1,8 +1,6 @@
 -- `agreement::agree::run_both` meets its promise: by the laws of Both, from what the line runner and the run of the image promise.
 -- Assumes nothing.
 use mathlib.Core.Path.{_≡_, ap, _∙_}
-use mathlib.Core.List.{List}
-use Prim.Native.Nat.{ℕ}
 use borrow.Author.Tests.{ne-eqb}
 use borrow.Author.Needs.{needs}
 use denote.Ref.{now}

@@ -1,7 +1,7 @@
 -- `agreement::difference::first_difference` meets its promise: its comparisons are the definition's, from the last to the first.
 -- Assumes nothing.
-use Rattle.agreement.specs.Difference.{firstDifference}
 use borrow.Author.Needs.{needs}
+use Rattle.agreement.specs.Difference.{firstDifference}
 use Rattle.agreement.proofs.difference.first_difference.Statement.{statement}
 use Rattle.agreement.proofs.difference.first_difference.Tie as tie
 

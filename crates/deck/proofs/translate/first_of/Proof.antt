@@ -1,9 +1,9 @@
 -- `deck::translate::first_of` meets its promise, operation by operation.
 -- Assumes nothing.
 use Prim.Native.Nat.{_<_}
+use borrow.Author.Needs.{needs}
 use denote.Ref.{now}
 use Rattle.deck.specs.Bytes.{lineCount}
-use borrow.Author.Needs.{needs}
 use Rattle.deck.proofs.translate.first_of.Statement.{statement}
 use Rattle.deck.proofs.translate.first_of.Tie as tie
 

@@ -1,14 +1,14 @@
 -- `deck::translate::write_line` meets its promise: the words of an accepted line are those of instructions in range and have room at its address, and the next line's
 -- address is where they end (`one-word`, `two-words`).
 -- Assumes nothing.
-use Prim.Native.Nat.{ℕ, _<_}
-use mathlib.Core.List.{List, [], _∷_}
+use Prim.Native.Nat.{_<_}
+use mathlib.Core.List.{[], _∷_}
 use mathlib.Core.Path.{_≡_, refl, sym, _∙_}
 use borrow.Author.Needs.{needs}
 use denote.Enum.Declared.{tagOf}
 use denote.Ref.{now}
-use lib.ListN.{length-set}
 use types.Run.{OneOf, miss}
+use lib.ListN.{length-set}
 use Rattle.core.specs.declared.word.Instruction.{Instruction}
 use Rattle.deck.specs.Bytes.{lineCount}
 use Rattle.deck.specs.Operation.{words, program}
