@@ -43,17 +43,20 @@ def command(name, arguments):
 
 
 def started(words, standard_input):
-    return subprocess.Popen(words, bufsize=0, stdin=standard_input, stdout=subprocess.PIPE)
+    return subprocess.Popen(words, bufsize=0, stdin=standard_input, stdout=subprocess.PIPE,
+                            stderr=subprocess.PIPE)
 
 
 def ended(process, deck=None):
-    """The status, negative if the program was ended by a signal, and what it wrote."""
+    """The status, negative if the program was ended by a signal, and what it wrote on
+    standard output and on standard error.
+    """
     try:
-        written, _ = process.communicate(deck, timeout=LIMIT)
+        written = process.communicate(deck, timeout=LIMIT)
     except subprocess.TimeoutExpired:
         process.kill()
-        written, _ = process.communicate()
-    return process.returncode, written
+        written = process.communicate()
+    return process.returncode, *written
 
 
 # Three ways to hand the deck to a program.
@@ -98,15 +101,17 @@ def in_pieces(words, deck, generator):
 WAYS = (at_once, from_a_file, in_pieces)
 
 
-def holds(words, deck, expected, way, generator):
-    """Whether the program wrote what the model writes; if not, says so."""
-    status, written = way(words, deck, generator)
-    if written == expected and status >= 0:
+def holds(words, deck, expected, way, generator, complaint=b""):
+    """Whether the program wrote what the model writes, and this on standard error; if
+    not, says so.
+    """
+    status, written, complained = way(words, deck, generator)
+    if (written, complained) == (expected, complaint) and status >= 0:
         return True
     print(f"{' '.join(map(str, words))}")
     print(f"deck of {len(deck)} bytes, {way.__name__}: {deck.hex()}")
     print(f"expected: {expected}")
-    print(f"came, with status {status}: {written}")
+    print(f"came, with status {status}: {written}, {complained}")
     return False
 
 
@@ -119,6 +124,25 @@ def agree_holds(deck, way, generator):
     return holds(command("agree", [str(asked)]), deck, decks.agreement(deck, asked), way, generator)
 
 
+USAGE = (b"usage: agree LINES < DECK, with LINES in decimal, 0 to 4294967295,"
+         b" at most ten digits\n")
+
+# Arguments of `agree` that are no number of lines, and some that are.
+MALFORMED = ([], [""], ["x"], ["-1"], ["+7"], [" 7"], ["7 "], ["0x7"], ["4294967296"],
+             ["9999999999"], ["00000000007"], ["7", "8"], ["7" * 5000])
+NUMBERS = ("0", "7", "07", "0000000007", "4294967295")
+
+
+def arguments_hold(generator):
+    """On a deck that ends after 7 lines."""
+    deck = decks.EXAMPLE
+    return (all(holds(command("agree", arguments), deck, b"", at_once, generator, USAGE)
+                for arguments in MALFORMED)
+            and all(holds(command("agree", [number]), deck,
+                          decks.agreement(deck, int(number)), at_once, generator)
+                    for number in NUMBERS))
+
+
 def missing(held):
     """Document 01's numbers, 0 for acceptance, that no deck had."""
     return [refusal for refusal in range(9) if held[refusal] == 0]
@@ -126,6 +150,8 @@ def missing(held):
 
 def hold(count, seed):
     generator = random.Random(seed)
+    if not arguments_hold(generator):
+        return 1
     held = Counter()
     for number in range(count):
         deck = decks.any_deck(generator)

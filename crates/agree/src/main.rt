@@ -4,7 +4,7 @@ mod report;
 
 use agreement::agree::agree;
 use asked::Asked;
-use asked::read;
+use asked::lines_asked;
 use libc::STDERR_FILENO;
 use libc::STDIN_FILENO;
 use report::report;
@@ -13,26 +13,26 @@ use report::report;
 const MOST: usize = 1282;
 
 // Both ways begin with cells of 0.
-fn compare(deck: &[u8], lines: u32) {
+fn compare_and_report(deck: &[u8], lines: u32) {
     report(agree(deck, &[0u8; 16], lines));
 }
 
-fn run(lines: u32) {
+fn read_and_compare(lines: u32) {
     let mut input = [0u8; MOST];
     let count = io::read_full(STDIN_FILENO, &mut input);
-    compare(&input[..count], lines);
+    compare_and_report(&input[..count], lines);
+}
+
+fn print_usage() {
+    io::write_all(
+        STDERR_FILENO,
+        b"usage: agree LINES < DECK, with LINES in decimal, 0 to 4294967295, at most ten digits\n",
+    );
 }
 
 fn main() {
-    let mut digits = [0u8; 10];
-    let count = os::arg(1, &mut digits);
-    match read(&digits[..count]) {
-        Asked::Lines(lines) => run(lines),
-        Asked::Malformed => {
-            io::write_all(
-                STDERR_FILENO,
-                b"usage: agree LINES < DECK, with LINES from 0 to 4294967295\n",
-            );
-        }
+    match lines_asked() {
+        Asked::Lines(lines) => read_and_compare(lines),
+        Asked::Malformed => print_usage(),
     }
 }

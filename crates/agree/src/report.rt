@@ -1,6 +1,8 @@
-// What was found, on standard output.
-use agreement::agree::Agreement;
+// What was found, on standard output. That the two ways differ is never said of an accepted deck: it is proved that they agree. The lines for it are there so
+// that a fault below what is proved, of a compiler or of a processor, would be seen.
+use agreement::agree::Compared;
 use agreement::difference::Difference;
+use core::refusal::ACCEPTED;
 use libc::STDOUT_FILENO;
 
 fn print(text: &[u8]) {
@@ -45,7 +47,7 @@ fn print_register(name: &[u8], by_lines: u8, by_clocks: u8) {
     print_values(by_lines, by_clocks);
 }
 
-fn print_found(found: Agreement) {
+fn print_found(found: Compared) {
     let difference = found.difference;
     match difference {
         Difference::None => print_agreement(found.lines, found.clocks),
@@ -61,7 +63,7 @@ fn print_found(found: Agreement) {
             by_lines,
             by_clocks,
         } => print_register(b"flags", by_lines, by_clocks),
-        Difference::Counter {
+        Difference::Pc {
             by_lines,
             by_clocks,
         } => print_register(b"PC", by_lines, by_clocks),
@@ -74,8 +76,8 @@ fn print_found(found: Agreement) {
     }
 }
 
-pub(crate) fn report(found: Agreement) {
-    if found.refusal != 0 {
+pub(crate) fn report(found: Compared) {
+    if found.refusal != ACCEPTED {
         print_refusal(found.refusal);
         return;
     }

@@ -22,22 +22,22 @@ use Rattle.deck.specs.Operation.{program}
 use Rattle.deck.specs.declared.lines.LinesRun.{LinesRun}
 use Rattle.agreement.proofs.Differences.{none-found}
 
-module _ (asked : ℕ) (deck cells : List ℕ) (lines : LinesRun) (left : List ℕ) (l : LinesPromise asked deck cells lines left) where
-  pub both-refused : eqb (lines .refusal) accepted ≡ false → AgreePromise asked deck cells (refusedAs (lines .refusal))
+module _ (asked : ℕ) (deck cells : List ℕ) (ran : LinesRun) (left : List ℕ) (l : LinesPromise asked deck cells ran left) where
+  pub both-refused : eqb (ran .refusal) accepted ≡ false → AgreePromise asked deck cells (refusedAs (ran .refusal))
   both-refused e =
-      let number = lines-number asked deck cells lines left l in
+      let number = lines-number asked deck cells ran left l in
       rw (sym number, e)
 
-  pub both-agree : lines .refusal ≡ accepted → length cells ≡ 16 → length left ≡ 16
-      → (clocked : Clocked) (others : List ℕ) → RunPromise (lines .clocks) freshlyLoaded (image (program deck)) cells clocked others
-      → (difference : Difference) → difference ≡ firstDifference lines left clocked others
-      → AgreePromise asked deck cells (record { refusal = accepted; lines = lines .lines; clocks = lines .clocks; difference = difference })
+  pub both-agree : ran .refusal ≡ accepted → length cells ≡ 16 → length left ≡ 16
+      → (clocked : Clocked) (others : List ℕ) → RunPromise (ran .clocks) freshlyLoaded (image (program deck)) cells clocked others
+      → (difference : Difference) → difference ≡ firstDifference ran left clocked others
+      → AgreePromise asked deck cells (record { refusal = accepted; lines = ran .lines; clocks = ran .clocks; difference = difference })
   both-agree ok sixteen still clocked others r difference d =
-      let accepts = lines-accepted asked deck cells lines left l ok in
-      let a = lines-as asked deck cells lines left accepts sixteen l in
-      let same = runs-agree deck cells asked accepts sixteen lines left l clocked others r in
-      let none : difference ≡ Difference.None = d ∙ none-found lines left clocked others still same in
-      rw (sym (lines-number asked deck cells lines left l), ok, a .0, none)
+      let accepts = lines-accepted asked deck cells ran left l ok in
+      let a = lines-as asked deck cells ran left accepts sixteen l in
+      let same = runs-agree deck cells asked accepts sixteen ran left l clocked others r .0 in
+      let none : difference ≡ Difference.None = d ∙ none-found ran left clocked others still same in
+      rw (sym (lines-number asked deck cells ran left l), ok, a .0, none)
 
 -- without sixteen cells
 module _ (asked : ℕ) (deck cells : List ℕ) (e : eqb (length cells) 16 ≡ false) where

@@ -27,7 +27,7 @@ isNone Difference.None = true
 isNone (Difference.Refusal number) = false
 isNone (Difference.Acc byLines byClocks) = false
 isNone (Difference.Flags byLines byClocks) = false
-isNone (Difference.Counter byLines byClocks) = false
+isNone (Difference.Pc byLines byClocks) = false
 isNone Difference.Stage = false
 isNone (Difference.Cell place byLines byClocks) = false
 
@@ -50,37 +50,37 @@ all-passed cells others h k false q e =
     let place = ltb-false (firstDiffering cells others) 16 q in
     sym (same-cells cells others (h ∙ sym k) (omega (arith, h, place)))
 
-module _ (lines : LinesRun) (cells : List ℕ) (clocked : Clocked) (others : List ℕ) (sixteen : length cells ≡ 16) where
+module _ (ran : LinesRun) (cells : List ℕ) (clocked : Clocked) (others : List ℕ) (sixteen : length cells ≡ 16) where
   -- where they came to the same, none is found
-  pub none-found : Same lines cells clocked others → firstDifference lines cells clocked others ≡ Difference.None
+  pub none-found : Same ran cells clocked others → firstDifference ran cells clocked others ≡ Difference.None
   unfolding firstDifference
   none-found s =
       rw (
         eq-eqb (clocked .refusal) accepted (s .both-accepted .1),
-        eq-eqb (clocked .machine .acc) (lines .acc) (s .acc),
-        eq-eqb (clocked .machine .sr) (lines .flags) (s .flags),
-        eq-eqb (clocked .machine .pc .0) (lines .pc .0) (ap (λ (pc : ProgramAddress). pc .0) (s .counter)),
+        eq-eqb (clocked .machine .acc) (ran .acc) (s .acc),
+        eq-eqb (clocked .machine .sr) (ran .flags) (s .flags),
+        eq-eqb (clocked .machine .pc .0) (ran .pc .0) (ap (λ (pc : ProgramAddress). pc .0) (s .pc)),
         s .fetches,
-        s .cells,
+        s .all-cells,
         nowhere cells,
         sixteen,
       )
 
   -- and where none is found, they came to the same
-  pub same-where-none : length others ≡ 16 → lines .refusal ≡ accepted → firstDifference lines cells clocked others ≡ Difference.None
-      → Same lines cells clocked others
+  pub same-where-none : length others ≡ 16 → ran .refusal ≡ accepted → firstDifference ran cells clocked others ≡ Difference.None
+      → Same ran cells clocked others
   unfolding firstDifference
   same-where-none k ok e =
       let refusal = passed-over (eqb (clocked .refusal) accepted) _ _ refl e in
-      let acc = passed-over (eqb (clocked .machine .acc) (lines .acc)) _ _ refl (refusal .1) in
-      let flags = passed-over (eqb (clocked .machine .sr) (lines .flags)) _ _ refl (acc .1) in
-      let counter = passed-over (eqb (clocked .machine .pc .0) (lines .pc .0)) _ _ refl (flags .1) in
-      let stage = passed-over (isFetch (clocked .machine .stage)) _ _ refl (counter .1) in
+      let acc = passed-over (eqb (clocked .machine .acc) (ran .acc)) _ _ refl (refusal .1) in
+      let flags = passed-over (eqb (clocked .machine .sr) (ran .flags)) _ _ refl (acc .1) in
+      let pc = passed-over (eqb (clocked .machine .pc .0) (ran .pc .0)) _ _ refl (flags .1) in
+      let stage = passed-over (isFetch (clocked .machine .stage)) _ _ refl (pc .1) in
       record {
         both-accepted = (ok, eqb-true (clocked .refusal) accepted (refusal .0));
-        acc = eqb-true (clocked .machine .acc) (lines .acc) (acc .0);
-        flags = eqb-true (clocked .machine .sr) (lines .flags) (flags .0);
-        counter = ap (λ (n : ℕ). programAddress n) (eqb-true (clocked .machine .pc .0) (lines .pc .0) (counter .0));
+        acc = eqb-true (clocked .machine .acc) (ran .acc) (acc .0);
+        flags = eqb-true (clocked .machine .sr) (ran .flags) (flags .0);
+        pc = ap (λ (n : ℕ). programAddress n) (eqb-true (clocked .machine .pc .0) (ran .pc .0) (pc .0));
         fetches = at-fetch (clocked .machine .stage) (stage .0);
-        cells = all-passed cells others sixteen k _ refl (stage .1);
+        all-cells = all-passed cells others sixteen k _ refl (stage .1);
       }

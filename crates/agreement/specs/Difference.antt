@@ -1,5 +1,4 @@
--- The first difference between what the line runner came to and what the machine came to: "Accumulator, flags and all cells agree, the counter is the next line's
--- address modulo 256, and the machine is about to fetch."
+-- The first difference between what the line runner came to and what the machine came to, of all that demand 3 says is the same.
 -- Assumes nothing.
 use Prim.Native.Nat.{ℕ, suc}
 use mathlib.Core.Bool.{cond, not}
@@ -19,16 +18,16 @@ firstDiffering (cell ∷ cells) [] = 0
 firstDiffering (cell ∷ cells) (other ∷ others) = cond (eqb cell other) (suc (firstDiffering cells others)) 0
 
 abbrev pub differenceOfCells : List ℕ → List ℕ → Difference
-differenceOfCells byLines byClocks =
-    let place : ℕ = firstDiffering byLines byClocks in
-    cond (ltb place 16) (Difference.Cell place (getD byLines place 0) (getD byClocks place 0)) Difference.None
+differenceOfCells cells others =
+    let place : ℕ = firstDiffering cells others in
+    cond (ltb place 16) (Difference.Cell place (getD cells place 0) (getD others place 0)) Difference.None
 
--- refusal, Acc, flags, counter and stage, then the cells in order
+-- refusal, Acc, flags, PC and stage, then the cells in order: `cells` are those that the lines left, `others` those that the clocks left
 unfoldable pub firstDifference : LinesRun → List ℕ → Clocked → List ℕ → Difference
-firstDifference lines byLines clocked byClocks =
+firstDifference ran cells clocked others =
     cond (not (eqb (clocked .refusal) accepted)) (Difference.Refusal (clocked .refusal))
-    (cond (not (eqb (clocked .machine .acc) (lines .acc))) (Difference.Acc (lines .acc) (clocked .machine .acc))
-    (cond (not (eqb (clocked .machine .sr) (lines .flags))) (Difference.Flags (lines .flags) (clocked .machine .sr))
-    (cond (not (eqb (clocked .machine .pc .0) (lines .pc .0))) (Difference.Counter (lines .pc .0) (clocked .machine .pc .0))
+    (cond (not (eqb (clocked .machine .acc) (ran .acc))) (Difference.Acc (ran .acc) (clocked .machine .acc))
+    (cond (not (eqb (clocked .machine .sr) (ran .flags))) (Difference.Flags (ran .flags) (clocked .machine .sr))
+    (cond (not (eqb (clocked .machine .pc .0) (ran .pc .0))) (Difference.Pc (ran .pc .0) (clocked .machine .pc .0))
     (cond (not (isFetch (clocked .machine .stage))) Difference.Stage
-    (differenceOfCells byLines byClocks)))))
+    (differenceOfCells cells others)))))

@@ -20,17 +20,17 @@ use deck::lines::run_lines;
 use deck::translate::translate;
 
 // The lines run, the clocks that they cost and the first difference; or the number of the refusal, 0 for the counts and no difference.
-pub struct Agreement {
+pub struct Compared {
     pub refusal: u8,
     pub lines: u32,
     pub clocks: u64,
     pub difference: Difference,
 }
 
-fn refused(number: u8) -> Agreement
+fn refused(number: u8) -> Compared
     ensures { λ r. ⌜ r ≡ refusedAs number ⌝ }
 {
-    Agreement {
+    Compared {
         refusal: number,
         lines: 0,
         clocks: 0,
@@ -60,26 +60,27 @@ fn clock_image(deck: &[u8], cells: &mut [u8], clocks: u64) -> Clocked
     run(fresh(), &words[..count], cells, clocks)
 }
 
-// Both ways, each on cells of its own that begin alike.
-fn run_both(deck: &[u8], cells: &mut [u8], others: &mut [u8], asked: u32) -> Agreement
+// Both ways, each on cells of its own that begin alike: `cells` for the lines, `others` for the clocks.
+fn run_both(deck: &[u8], cells: &mut [u8], others: &mut [u8], asked: u32) -> Compared
     requires { ⌜ (length (now cells) ≡ 16) × (now others ≡ now cells) ⌝ }
     ensures { λ r. ⌜ AgreePromise asked (now (deck .entry)) (now (cells .entry)) r ⌝ }
 {
-    let lines = run_lines(deck, cells, asked);
-    if lines.refusal != ACCEPTED {
-        return refused(lines.refusal);
+    let ran = run_lines(deck, cells, asked);
+    if ran.refusal != ACCEPTED {
+        return refused(ran.refusal);
     }
-    let clocked = clock_image(deck, others, lines.clocks);
-    Agreement {
+    let clocked = clock_image(deck, others, ran.clocks);
+    Compared {
         refusal: ACCEPTED,
-        lines: lines.lines,
-        clocks: lines.clocks,
-        difference: first_difference(lines, cells, clocked, others),
+        lines: ran.lines,
+        clocks: ran.clocks,
+        difference: first_difference(ran, cells, clocked, others),
     }
 }
 
-// Refuses as `run_lines` does: 1 to 8 as `check`, then 12: not exactly 16 cells. The cells are read, and both ways begin with them.
-pub fn agree(deck: &[u8], cells: &[u8], asked: u32) -> Agreement
+// Refuses as `run_lines` does: 1 to 8 as `check`, then 12: not exactly 16 cells. That is found out before the cells are copied, which takes sixteen. The cells
+// handed in are only read, and both ways begin with them.
+pub fn agree(deck: &[u8], cells: &[u8], asked: u32) -> Compared
     ensures { λ r. ⌜ AgreePromise asked (now (deck .entry)) (now (cells .entry)) r ⌝ }
 {
     if cells.len() != 16 {
@@ -89,9 +90,9 @@ pub fn agree(deck: &[u8], cells: &[u8], asked: u32) -> Agreement
         }
         return refused(NOT_SIXTEEN_CELLS);
     }
-    let mut by_lines = [0u8; 16];
-    let mut by_clocks = [0u8; 16];
-    copy(cells, &mut by_lines);
-    copy(cells, &mut by_clocks);
-    run_both(deck, &mut by_lines, &mut by_clocks, asked)
+    let mut line_cells = [0u8; 16];
+    let mut clock_cells = [0u8; 16];
+    copy(cells, &mut line_cells);
+    copy(cells, &mut clock_cells);
+    run_both(deck, &mut line_cells, &mut clock_cells, asked)
 }

@@ -24,7 +24,7 @@ pub enum Difference {
         by_lines: u8,
         by_clocks: u8,
     },
-    Counter {
+    Pc {
         by_lines: u8,
         by_clocks: u8,
     },
@@ -36,7 +36,7 @@ pub enum Difference {
     },
 }
 
-// Of the cells that the lines left and of those that the clocks left: the first place where they differ, 16 where none does.
+// Here and below `cells` are those that the lines left and `others` those that the clocks left. The first place where they differ, 16 where none does.
 fn first_differing(cells: &[u8], others: &[u8]) -> usize
     requires { ⌜ (length (now cells) ≡ 16) × (length (now others) ≡ 16) ⌝ }
     ensures { λ r. ⌜ r ≡ firstDiffering (now (cells .entry)) (now (others .entry)) ⌝ }
@@ -84,37 +84,37 @@ fn stage_or_else(stage: Stage, after: Difference) -> Difference
     }
 }
 
-// Refusal, Acc, flags, counter and stage, then the cells in order; worked out from the last to the first.
+// Refusal, Acc, flags, PC and stage, then the cells in order; worked out from the last to the first.
 pub(crate) fn first_difference(
-    lines: LinesRun,
+    ran: LinesRun,
     cells: &[u8],
     clocked: Clocked,
     others: &[u8],
 ) -> Difference
     requires { ⌜ (length (now cells) ≡ 16) × (length (now others) ≡ 16) ⌝ }
-    ensures { λ r. ⌜ r ≡ firstDifference lines (now (cells .entry)) clocked (now (others .entry)) ⌝ }
+    ensures { λ r. ⌜ r ≡ firstDifference ran (now (cells .entry)) clocked (now (others .entry)) ⌝ }
 {
     let machine = clocked.machine;
     let stage = machine.stage;
-    let by_lines = lines.pc.0;
+    let by_lines = ran.pc.0;
     let by_clocks = machine.pc.0;
     let from_cells = difference_of_cells(cells, others);
     let from_stage = stage_or_else(stage, from_cells);
-    let counter = Difference::Counter {
+    let pc = Difference::Pc {
         by_lines,
         by_clocks,
     };
-    let from_counter = or_else(by_clocks != by_lines, counter, from_stage);
+    let from_pc = or_else(by_clocks != by_lines, pc, from_stage);
     let flags = Difference::Flags {
-        by_lines: lines.flags,
+        by_lines: ran.flags,
         by_clocks: machine.sr,
     };
-    let from_flags = or_else(machine.sr != lines.flags, flags, from_counter);
+    let from_flags = or_else(machine.sr != ran.flags, flags, from_pc);
     let acc = Difference::Acc {
-        by_lines: lines.acc,
+        by_lines: ran.acc,
         by_clocks: machine.acc,
     };
-    let from_acc = or_else(machine.acc != lines.acc, acc, from_flags);
+    let from_acc = or_else(machine.acc != ran.acc, acc, from_flags);
     let refusal = Difference::Refusal {
         number: clocked.refusal,
     };

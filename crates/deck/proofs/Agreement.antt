@@ -17,7 +17,7 @@ use Rattle.core.specs.Machine.{State, memoryOf, state, freshlyLoaded, clockedAs
 use Rattle.core.specs.Refusal.{accepted}
 use Rattle.core.specs.Rule.{Visible, OneCell}
 use Rattle.core.specs.declared.machine.Clocked.{Clocked}
-use Rattle.deck.specs.Agreement.{Agree, afterClocks, AgreesFromAnyLine, AgreesFromLoad, FunctionsAgree, OneCellALine, Same}
+use Rattle.deck.specs.Agreement.{Agree, afterClocks, AgreesFromAnyLine, AgreesFromLoad, FunctionsAgree, OneCellALine, Same, Demand3}
 use Rattle.deck.specs.Bytes.{lineCount}
 use Rattle.deck.specs.Deck.{deckRefusal}
 use Rattle.deck.specs.Image.{address, image}
@@ -34,72 +34,79 @@ module _ (deck : List ℕ) (s : Sound deck) where
   abbrev p : Program
   p = program deck
 
-  one-by : (position : ℕ) (clocked : State) (test : Bool) → ltb position (lineCount deck) ≡ test → Agree p (lineState position (visible clocked)) clocked
-      → Agree p (lineStep p (lineState position (visible clocked))) (afterClocks p (lineCost p (lineState position (visible clocked))) clocked)
+  one-by : (position : ℕ) (m : State) (test : Bool) → ltb position (lineCount deck) ≡ test → Agree p (lineState position (visible m)) m
+      → Agree p (lineStep p (lineState position (visible m))) (afterClocks p (lineCost p (lineState position (visible m))) m)
   unfolding lineStep lineExecuted
-  one-by position clocked true e a =
+  one-by position m true e a =
       let h = ltb-true position (lineCount deck) e in
-      rw e (after-line p (s .small) position h clocked (a .counter) (a .fetches) (operationAt deck position) refl (line-lands deck s position h)
+      rw e (after-line p (s .small) position h m (a .pc) (a .fetches) (operationAt deck position) refl (line-lands deck s position h)
       (line-in-range deck s position h (address p position)))
-  one-by position clocked false e a = rw e a
+  one-by position m false e a = rw e a
 
-  one : (lines : LineState) (clocked : State) → Agree p lines clocked → Agree p (lineStep p lines) (afterClocks p (lineCost p lines) clocked)
-  one lines clocked a = rw same (one-by (lines .position) clocked (ltb (lines .position) (lineCount deck)) refl (rw same at a))
+  -- one line, or none where the run has passed the last
+  one : (lines : LineState) (m : State) → Agree p lines m → Agree p (lineStep p lines) (afterClocks p (lineCost p lines) m)
+  one lines m a = rw same (one-by (lines .position) m (ltb (lines .position) (lineCount deck)) refl (rw same at a))
     where
-      same : lines ≡ lineState (lines .position) (visible clocked)
+      same : lines ≡ lineState (lines .position) (visible m)
       same = ap (λ (v : Visible). lineState (lines .position) v) (sym (a .sees))
 
   clocks-of : (n : ℕ) (lines : LineState) → clocksOf p n lines ≡ 3 * wordsExecuted p n lines
   clocks-of = total-times (lineStep p) (lineCost p) (lineExecuted p) 3 (λ lines. refl)
 
-  -- FROM ANY LINE BOUNDARY
-  pub from-any-line : AgreesFromAnyLine p
-  from-any-line n lines clocked a =
-      rw (clocks-of n lines) at (kept-together (lineStep p) (lineCost p) (clock (memoryOf (image p))) (Agree p) one n lines clocked a)
-
-  -- FROM A FRESH LOAD
-  pub from-load : (cells : List ℕ) (n : ℕ) → AgreesFromLoad p cells n
-  unfolding address
-  from-load cells n =
+  -- n lines
+  from-any-line : AgreesFromAnyLine p
+  from-any-line n lines m a =
       record {
-        agree = from-any-line n (atStart cells) (state freshlyLoaded cells) (record { sees = refl; counter = refl; inside = omega arith; fetches = refl });
-        clocks = clocks-of n (atStart cells);
-        one-cell = λ k h. one-more-cell p k (atStart cells);
+        agree = rw (clocks-of n lines) at (kept-together (lineStep p) (lineCost p) (clock (memoryOf (image p))) (Agree p) one n lines m a);
+        clocks = clocks-of n lines;
+        one-cell = λ k h. one-more-cell p k lines;
       }
 
+  from-load : AgreesFromLoad p
+  unfolding address
+  from-load n cells =
+      from-any-line n (atStart cells) (state freshlyLoaded cells) (record { sees = refl; pc = refl; inside = omega arith; fetches = refl })
+
+-- DEMAND 3
+pub demand-3 : Demand3
+demand-3 deck ok = (from-any-line deck (sound deck ok), from-load deck (sound deck ok))
+
 -- the line runner, and a run of the image for the clocks that it reports
-pub runs-agree : (deck cells : List ℕ) (asked : ℕ) → deckRefusal deck ≡ accepted → length cells ≡ 16
-    → (lines : LinesRun) (byLines : List ℕ) → LinesPromise asked deck cells lines byLines
-    → (clocked : Clocked) (byClocks : List ℕ) → RunPromise (lines .clocks) freshlyLoaded (image (program deck)) cells clocked byClocks
-    → Same lines byLines clocked byClocks
-runs-agree deck cells asked ok sixteen lines byLines l clocked byClocks r =
+pub runs-agree : (deck start : List ℕ) (asked : ℕ) → deckRefusal deck ≡ accepted → length start ≡ 16
+    → (ran : LinesRun) (cells : List ℕ) → LinesPromise asked deck start ran cells
+    → (clocked : Clocked) (others : List ℕ) → RunPromise (ran .clocks) freshlyLoaded (image (program deck)) start clocked others
+    → Same ran cells clocked others × (ran .clocks ≡ 3 * wordsExecuted (program deck) asked (atStart start))
+runs-agree deck start asked ok sixteen ran cells l clocked others r =
     let p = program deck in
-    let s = sound deck ok in
-    let b = lines-as asked deck cells lines byLines ok sixteen l in
-    let g = from-load deck s cells asked in
-    let made : lines .clocks ≡ 3 * wordsExecuted p asked (atStart cells) = ap (λ (x : LinesRun). x .clocks) (b .0) ∙ g .clocks in
-    let after : State = afterClocks p (3 * wordsExecuted p asked (atStart cells)) (state freshlyLoaded cells) in
-    let c : (clocked ≡ clockedAs accepted (after .machine)) × (byClocks ≡ after .cells) = rw (made, image-accepted deck s cells sixteen) at r in
-    record {
-      both-accepted = (ap (λ (x : LinesRun). x .refusal) (b .0), ap (λ (x : Clocked). x .refusal) (c .0));
-      acc = ap (λ (x : Clocked). x .machine .acc) (c .0) ∙ ap (λ (v : Visible). v .acc) (g .agree .sees) ∙ sym (ap (λ (x : LinesRun). x .acc) (b .0));
-      flags = ap (λ (x : Clocked). x .machine .sr) (c .0) ∙ ap (λ (v : Visible). v .sr) (g .agree .sees) ∙ sym (ap (λ (x : LinesRun). x .flags) (b .0));
-      counter = ap (λ (x : Clocked). x .machine .pc) (c .0) ∙ g .agree .counter ∙ sym (ap (λ (x : LinesRun). x .pc) (b .0));
-      fetches = ap (λ (x : Clocked). x .machine .stage) (c .0) ∙ g .agree .fetches;
-      cells = c .1 ∙ ap (λ (v : Visible). v .cells) (g .agree .sees) ∙ sym (b .1);
-    }
+    let b = lines-as asked deck start ran cells ok sixteen l in
+    let g = demand-3 deck ok .1 asked start in
+    let sum : ran .clocks ≡ 3 * wordsExecuted p asked (atStart start) = ap (λ (x : LinesRun). x .clocks) (b .0) ∙ g .clocks in
+    let after : State = afterClocks p (3 * wordsExecuted p asked (atStart start)) (state freshlyLoaded start) in
+    let c : (clocked ≡ clockedAs accepted (after .machine)) × (others ≡ after .cells) =
+    rw (sum, image-accepted deck (sound deck ok) start sixteen) at r in (
+      record {
+        both-accepted = (ap (λ (x : LinesRun). x .refusal) (b .0), ap (λ (x : Clocked). x .refusal) (c .0));
+        acc = ap (λ (x : Clocked). x .machine .acc) (c .0) ∙ ap (λ (v : Visible). v .acc) (g .agree .sees) ∙ sym (ap (λ (x : LinesRun). x .acc) (b .0));
+        flags = ap (λ (x : Clocked). x .machine .sr) (c .0) ∙ ap (λ (v : Visible). v .sr) (g .agree .sees) ∙ sym (ap (λ (x : LinesRun). x .flags) (b .0));
+        pc = ap (λ (x : Clocked). x .machine .pc) (c .0) ∙ g .agree .pc ∙ sym (ap (λ (x : LinesRun). x .pc) (b .0));
+        fetches = ap (λ (x : Clocked). x .machine .stage) (c .0) ∙ g .agree .fetches;
+        all-cells = c .1 ∙ ap (λ (v : Visible). v .cells) (g .agree .sees) ∙ sym (b .1);
+      },
+      sum,
+    )
 
 -- OF THE FUNCTIONS
 pub functions-agree : FunctionsAgree
-functions-agree deck output cells asked sixteen translated words t ok lines byLines l machine fresh clocked byClocks r =
-    let accepts = deck-accepted deck output translated words t ok in
-    runs-agree deck cells asked accepts sixteen lines byLines l clocked byClocks (rw (fresh, image-at-start deck output translated words t ok) at r)
+functions-agree deck output start asked sixteen translated output' t ok ran cells l machine fresh clocked others r =
+    let accepts = deck-accepted deck output translated output' t ok in
+    runs-agree deck start asked accepts sixteen ran cells l clocked others (rw (fresh, image-at-start deck output translated output' t ok) at r)
 
-left-by : (deck cells : List ℕ) (asked : ℕ) (test : Bool) (before after : List ℕ)
-    → before ≡ cond test (afterLines (program deck) asked (atStart cells) .sees .cells) cells
-    → after ≡ cond test (afterLines (program deck) (asked + 1) (atStart cells) .sees .cells) cells → OneCell before after
-left-by deck cells asked true before after e f = rw (e, f) (one-more-cell (program deck) asked (atStart cells))
-left-by deck cells asked false before after e f = rw (e, f) (none-changed cells)
+left-by : (deck start : List ℕ) (asked : ℕ) (test : Bool) (before after : List ℕ)
+    → before ≡ cond test (afterLines (program deck) asked (atStart start) .sees .cells) start
+    → after ≡ cond test (afterLines (program deck) (asked + 1) (atStart start) .sees .cells) start → OneCell before after
+left-by deck start asked true before after e f = rw (e, f) (one-more-cell (program deck) asked (atStart start))
+left-by deck start asked false before after e f = rw (e, f) (none-changed start)
 
 pub one-cell-a-line : OneCellALine
-one-cell-a-line deck cells asked lines longer before after l m = left-by deck cells asked (eqb (linesRefusal deck (length cells)) accepted) before after (l .1) (m .1)
+one-cell-a-line deck start asked ran longer before after l m =
+    left-by deck start asked (eqb (linesRefusal deck (length start)) accepted) before after (l .1) (m .1)

@@ -29,30 +29,30 @@ unfolding deckRefusal address imageUpTo operationAt rowOf wordOf
 example-image = (refl, refl)
 
 -- "The line runner stops this deck after 7 lines and 27 clocks with Acc 0, flags 8, PC 4."
-abbrev ran : ℕ → Program → LinesRun
-ran asked p =
+abbrev answered : ℕ → Program → LinesRun
+answered asked p =
     let start = atStart (replicate 16 0) in
     ranAs p (linesOf p asked start) (clocksOf p asked start) (afterLines p asked start)
 
-pub example-run : ran 9 (program example)
+pub example-run : answered 9 (program example)
     ≡ record { refusal = accepted; lines = 7; clocks = 27; acc = 0; flags = 8; position = 3; pc = programAddress 4 }
 unfolding address lineStep lineExecuted lineTally operationAt rowOf effect flag table unitResult unitFlags
 example-run = refl
 
 -- "One label, at line 0.": so many NOP lines, then one operation 26 on Z where there are others.
-abbrev lines-of : ℕ → List ℕ → List ℕ
-lines-of zero others = others
-lines-of (suc n) others = 0x1B ∷ 0x00 ∷ 0x00 ∷ lines-of n others
+abbrev nops-then : ℕ → List ℕ → List ℕ
+nops-then zero others = others
+nops-then (suc n) others = 0x1B ∷ 0x00 ∷ 0x00 ∷ nops-then n others
 
 -- "256 NOP lines: accepted. 254, then one operation 26 on Z: accepted, word 254 is 700. 255, then one operation 26: 8."
 abbrev full : List ℕ
-full = 0x01 ∷ 0x00 ∷ 0x00 ∷ 0x00 ∷ 0x01 ∷ lines-of 256 []
+full = 0x01 ∷ 0x00 ∷ 0x00 ∷ 0x00 ∷ 0x01 ∷ nops-then 256 []
 
 abbrev last-skips : List ℕ
-last-skips = 0x01 ∷ 0x00 ∷ 0x00 ∷ 0xFF ∷ 0x00 ∷ lines-of 254 (0x1A ∷ 0x03 ∷ 0x00 ∷ [])
+last-skips = 0x01 ∷ 0x00 ∷ 0x00 ∷ 0xFF ∷ 0x00 ∷ nops-then 254 (0x1A ∷ 0x03 ∷ 0x00 ∷ [])
 
 abbrev too-many : List ℕ
-too-many = 0x01 ∷ 0x00 ∷ 0x00 ∷ 0x00 ∷ 0x01 ∷ lines-of 255 (0x1A ∷ 0x03 ∷ 0x00 ∷ [])
+too-many = 0x01 ∷ 0x00 ∷ 0x00 ∷ 0x00 ∷ 0x01 ∷ nops-then 255 (0x1A ∷ 0x03 ∷ 0x00 ∷ [])
 
 pub large-decks : (deckRefusal full ≡ accepted) × (deckRefusal last-skips ≡ accepted) × (deckRefusal too-many ≡ wordsAbove256)
 unfolding deckRefusal address operationAt rowOf

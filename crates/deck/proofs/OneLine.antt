@@ -19,7 +19,7 @@ use Rattle.core.specs.declared.address.ProgramAddress.{ProgramAddress}
 use Rattle.core.specs.declared.control.Stage.the-variants.{Fetch}
 use Rattle.core.specs.declared.word.Instruction.{Instruction}
 use Rattle.deck.specs.Agreement.{afterClocks, Agree}
-use Rattle.deck.specs.Image.{totalWords, counterAt, address, image, lineWords, instructionsOf}
+use Rattle.deck.specs.Image.{totalWords, pcAt, address, image, lineWords, instructionsOf}
 use Rattle.deck.specs.Lines.{lineState, executed, afterLine, lineEffect, lineNext}
 use Rattle.deck.specs.Operation.{Program, words}
 use Rattle.deck.specs.Private.{Lands}
@@ -29,7 +29,7 @@ use Rattle.deck.proofs.Instructions.{InRange}
 use Rattle.deck.proofs.Runs.{lands-next}
 
 -- a machine at a line that is there
-module _ (p : Program) (small : totalWords p ≤ 256) (line : ℕ) (h : line < p .count) (s : State) (at : s .machine .pc ≡ counterAt p line)
+module _ (p : Program) (small : totalWords p ≤ 256) (line : ℕ) (h : line < p .count) (s : State) (at : s .machine .pc ≡ pcAt p line)
     (fetches : s .machine .stage ≡ Fetch) where
   -- the address of its word j
   abbrev wordAddress : ℕ → ProgramAddress
@@ -50,21 +50,21 @@ module _ (p : Program) (small : totalWords p ≤ 256) (line : ℕ) (h : line < p
   first : s .machine .pc ≡ wordAddress 0
   first = rw add-zero at
 
-  -- where the counter goes: to a line, past a line of one word, past a line of two
-  to-line : (t : ℕ) → t < p .count → programAddress (address p t) ≡ counterAt p t
+  -- where PC goes: to a line, past a line of one word, past a line of two
+  to-line : (t : ℕ) → t < p .count → programAddress (address p t) ≡ pcAt p t
   to-line t k = rw (mod-eq-of-lt (address-lt p t k small))
 
-  past-one : (o : Operation) → p .line line ≡ o → words o ≡ 1 → stepped (s .machine .pc) ≡ counterAt p (line + 1)
+  past-one : (o : Operation) → p .line line ≡ o → words o ≡ 1 → stepped (s .machine .pc) ≡ pcAt p (line + 1)
   past-one o e w = rw (at, steps-to (address p line), address-next p line, e, w)
 
-  past-two : (o : Operation) → p .line line ≡ o → words o ≡ 2 → wordAddress 2 ≡ counterAt p (line + 1)
+  past-two : (o : Operation) → p .line line ≡ o → words o ≡ 2 → wordAddress 2 ≡ pcAt p (line + 1)
   past-two o e w = rw (address-next p line, e, w)
 
   -- or either, by a test
-  taken : (test : Bool) (o : Operation) → p .line line ≡ o → words o ≡ 1 → (t : ℕ) → t < p .count
-      → cond test (programAddress (address p t)) (stepped (s .machine .pc)) ≡ counterAt p (cond test t (line + 1))
-  taken true o e w t k = to-line t k
-  taken false o e w t k = past-one o e w
+  chosen : (test : Bool) (o : Operation) → p .line line ≡ o → words o ≡ 1 → (t : ℕ) → t < p .count
+      → cond test (programAddress (address p t)) (stepped (s .machine .pc)) ≡ pcAt p (cond test t (line + 1))
+  chosen true o e w t k = to-line t k
+  chosen false o e w t k = past-one o e w
 
   -- the machine after a line, and the words that the line executes
   abbrev pub After : Operation → Type 0
@@ -73,13 +73,13 @@ module _ (p : Program) (small : totalWords p ≤ 256) (line : ℕ) (h : line < p
   module _ (o : Operation) (e : p .line line ≡ o) (lands : Lands (p .count) o) where
     -- a line that executes its first word alone
     single : (i : Instruction) → inRange i ≡ true → getD (map wordOf (instructionsOf p (address p line) o)) 0 undrawn ≡ wordOf i
-        → effect (actOf i) (visible s) ≡ lineEffect o (visible s) → next (actOf i) (s .machine) ≡ counterAt p (lineNext o line (s .machine .sr))
+        → effect (actOf i) (visible s) ≡ lineEffect o (visible s) → next (actOf i) (s .machine) ≡ pcAt p (lineNext o line (s .machine .sr))
         → Agree p (afterLine o (lineState line (visible s))) (afterClocks p 3 s)
     single i r w leaves to =
         let x = word o e 0 (words-pos o) i r w s first fetches in
         record {
           sees = x .sees ∙ leaves;
-          counter = x .to ∙ to;
+          pc = x .to ∙ to;
           inside = lands-next o (p .count) line (s .machine .sr) lands h;
           fetches = x .ends;
         }
@@ -97,7 +97,7 @@ module _ (p : Program) (small : totalWords p ≤ 256) (line : ℕ) (h : line < p
       let y = word o e 1 (omega arith) (Instruction.Goto (programAddress (address p t))) (r .1 .0) refl (afterClocks p 3 s) there (x .ends) in
       rw q (record {
         sees = y .sees ∙ go-leaves _ _ ∙ x .sees ∙ go-if-leaves _ _ _;
-        counter = y .to ∙ go-to _ _ ∙ to-line t k;
+        pc = y .to ∙ go-to _ _ ∙ to-line t k;
         inside = omega arith;
         fetches = y .ends;
       })
@@ -111,6 +111,6 @@ module _ (p : Program) (small : totalWords p ≤ 256) (line : ℕ) (h : line < p
       single (Operation.Goto t) e l (Instruction.Goto (programAddress (address p t))) (r .0) refl (go-leaves _ _) (go-to (s .machine) _ ∙ to-line t l)
   after-line (Operation.JumpIf f t) e l r =
       single (Operation.JumpIf f t) e l (Instruction.JumpIf f (programAddress (address p t))) (r .0) refl (go-if-leaves f _ _)
-      (go-if-to (s .machine) f _ ∙ taken (flag f (s .machine .sr)) _ e refl t l)
+      (go-if-to (s .machine) f _ ∙ chosen (flag f (s .machine .sr)) _ e refl t l)
   after-line (Operation.JumpUnless f t) e l r = unless f t (flag f (s .machine .sr)) refl e l r
   after-line Operation.Nop e l r = single Operation.Nop e l (Instruction.S 0) (r .0) refl (pass-leaves _) (pass-to (s .machine) ∙ past-one _ e refl)

@@ -18,8 +18,8 @@ abbrev pub totalWords : Program → ℕ
 totalWords p = address p (p .count)
 
 -- where the machine finds a position: "its address modulo 256 (the PC)"
-abbrev pub counterAt : Program → ℕ → ProgramAddress
-counterAt p position = programAddress (address p position % 256)
+abbrev pub pcAt : Program → ℕ → ProgramAddress
+pcAt p position = programAddress (address p position % 256)
 
 -- What a line at address `here` becomes. 'Operation 26 at address p becomes "jump if f to (p+2) mod 256", then GOTO the label's address. NOP becomes 000'.
 abbrev pub instructionsOf : Program → ℕ → Operation → List Instruction

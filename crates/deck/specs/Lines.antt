@@ -11,7 +11,7 @@ use Rattle.core.specs.Refusal.{accepted, firstBroken, check, notSixteenCells}
 use Rattle.core.specs.Rule.{Act, Visible, effect}
 use Rattle.core.specs.Word.{programAddress, flag}
 use Rattle.deck.specs.Deck.{deckChecks}
-use Rattle.deck.specs.Image.{counterAt}
+use Rattle.deck.specs.Image.{pcAt}
 use Rattle.deck.specs.Operation.{Program, program}
 use Rattle.deck.specs.declared.lines.LinesRun.{LinesRun}
 use Rattle.deck.specs.declared.operation.Operation.{Operation}
@@ -107,7 +107,7 @@ ranAs p lines clocks s =
       acc = s .sees .acc;
       flags = s .sees .sr;
       position = s .position;
-      pc = counterAt p (s .position);
+      pc = pcAt p (s .position);
     }
 
 -- "A refusal returns its number; .. other result fields are 0, cells and output are unchanged."

@@ -45,7 +45,7 @@ fn target_of(deck: &[u8], line: u16) -> ProgramAddress
     ProgramAddress(address_of(deck, line) as u8)
 }
 
-// "jump if f to (p+2) mod 256": past the GOTO that comes after it. From the last two words of the memory that is address 0.
+// "jump if f to (p+2) mod 256": past the GOTO that comes after it. For an operation 26 in the last two words of the memory that is address 0.
 fn skip_target(here: u16) -> ProgramAddress
     requires { ⌜ here < 256 ⌝ }
     ensures { λ r. ⌜ r ≡ programAddress ((here + 2) % 256) ⌝ }
@@ -84,12 +84,12 @@ fn write_line(deck: &[u8], line: u16, here: u16, output: &mut [u16]) -> u16
         × (now (output .exit) ≡ overwritten here (lineWords (program (now (deck .entry))) line) (now (output .entry))) ⌝ }
 {
     let operation = operation_at(deck, line);
-    let second = write(first_of(deck, operation, here), here, output);
+    let after_first = write(first_of(deck, operation, here), here, output);
     let Operation::JumpUnless { flag: _, line: to } = operation else {
-        return second;
+        return after_first;
     };
     let target = target_of(deck, to);
-    write(Instruction::Goto { target }, second, output)
+    write(Instruction::Goto { target }, after_first, output)
 }
 
 // Writes the words of all lines, and gives their count.

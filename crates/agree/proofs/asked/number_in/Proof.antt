@@ -1,11 +1,11 @@
--- `agree::asked::read` is safe and ends: the number so far has 32 bits, so that one digit more has 64; the digits that are left fall by one a turn.
+-- `agree::asked::number_in` is safe and ends: the number so far has 32 bits, so that one digit more has 64; the digits that are left fall by one a turn.
 -- Assumes nothing.
 use Prim.Native.Nat.{_-_, _≤_}
 use native.Mathlib.Omega.{arith}
 use borrow.Author.Needs.{needs}
 use lib.ListN.{length}
-use Rattle.agree.proofs.asked.read.Statement.{statement}
-use Rattle.agree.proofs.asked.read.Tie as tie
+use Rattle.agree.proofs.asked.number_in.Statement.{statement}
+use Rattle.agree.proofs.asked.number_in.Tie as tie
 
 abbrev Inv-loop : tie.InvT-loop
 Inv-loop digits number₀ place₀ number place = number ≤ 4294967295
@@ -21,8 +21,8 @@ add-number c =
     let l = c .before .before .before .before .loop in
     omega (arith, c .before .before .shared-slice-known .given (l .place), l .inv)
 
-pub read-spec : {M : Type 1} → statement M
-read-spec =
+pub number-in-spec : {M : Type 1} → statement M
+number-in-spec =
     tie.close
     (tie.spec
     Inv-loop
