@@ -13,13 +13,10 @@ pub mod Kind
 pub mod Loaded
 pub mod Order
 pub mod Overflow
-pub mod Programs
 pub mod Range
 pub mod Refusals
 pub mod RoundTrip
 pub mod Running
 pub mod Shift
-pub mod Starred
 pub mod Stepping
 pub mod ThreeClocks
-pub mod WrongMachine

@@ -7,7 +7,6 @@ pub mod LineCode
 pub mod ListingDeck
 pub mod ListingText
 pub mod Lookup
-pub mod Numbers
 pub mod OneLine
 pub mod Parts
 pub mod Reading

@@ -1,0 +1,4 @@
+pub mod Decks
+pub mod Programs
+pub mod Starred
+pub mod WrongMachine
