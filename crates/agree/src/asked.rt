@@ -1,6 +1,6 @@
 // The number of lines asked for: the program's one argument.
 
-#[derive(Drop)]
+#[derive(Clone, Copy)]
 pub(crate) enum Asked {
     Lines(u32),
     Malformed,

@@ -1,4 +1,6 @@
 // The agreement, for anyone to see: `agree LINES < DECK` runs so many lines of a deck, clocks its image on the machine, and says whether the two agree.
+#![tactic(auto)]
+
 mod asked;
 mod report;
 

@@ -17,7 +17,7 @@ use deck::lines::run_lines;
 use deck::translate::translate;
 
 // The lines run, the clocks that they cost and the first difference; or the number of the refusal, 0 for the counts and no difference.
-#[derive(Drop)]
+#[derive(Clone, Copy)]
 pub struct Compared {
     pub refusal: u8,
     pub lines: u32,

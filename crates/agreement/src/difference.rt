@@ -10,7 +10,7 @@ use chip_core::refusal::ACCEPTED;
 use deck::lines::LinesRun;
 
 // The first thing that differs, with its value on either side.
-#[derive(Drop)]
+#[derive(Clone, Copy)]
 pub enum Difference {
     None,
     Refusal {

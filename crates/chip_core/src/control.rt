@@ -6,7 +6,7 @@ use super::refusal::{ACCEPTED, REGISTER_OUT_OF_RANGE, WORD_ABOVE_4095};
 use super::word::{Instruction, bits, instruction_at, is_set};
 
 // "The only stages are FETCH, DECODE, EXECUTE, in that order, then FETCH again."
-#[derive(Drop)]
+#[derive(Clone, Copy)]
 pub enum Stage {
     Fetch,
     Decode,
@@ -14,7 +14,7 @@ pub enum Stage {
 }
 
 // A row: the nine enables as document 01 writes them, PC.E the first digit and ALU.E the last, the unit's mode and the two selects.
-#[derive(Drop)]
+#[derive(Clone, Copy)]
 pub struct ControlRow {
     pub enables: u16,
     pub mode: u8,
@@ -23,7 +23,7 @@ pub struct ControlRow {
 }
 
 // The row, or the number of the refusal and a row of 0.
-#[derive(Drop)]
+#[derive(Clone, Copy)]
 pub struct Controlled {
     pub refusal: u8,
     pub row: ControlRow,

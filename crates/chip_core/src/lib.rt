@@ -1,5 +1,7 @@
 // The core: what a word, the arithmetic unit, a clock, an instruction and a run mean, as document 01 says it. Everything above rests only on these
 // promises.
+#![tactic(auto)]
+
 pub mod address;
 pub mod clock;
 pub mod control;

@@ -11,7 +11,7 @@ use super::refusal::{
 };
 
 // The registers, and the stage that the next clock makes.
-#[derive(Drop)]
+#[derive(Clone, Copy)]
 pub struct Machine {
     pub pc: ProgramAddress,
     pub ir: u16,
@@ -22,7 +22,7 @@ pub struct Machine {
 }
 
 // The machine after the call, or the number of the refusal and the machine as it was handed in.
-#[derive(Drop)]
+#[derive(Clone, Copy)]
 pub struct Clocked {
     pub refusal: u8,
     pub machine: Machine,

@@ -7,7 +7,7 @@ use super::word::is_set;
 use std::num::{wrapping_add_u8, wrapping_sub_u8};
 
 // A row of the table: the result, the mask of the flags that it sets, and C and O. Z and S go by the result.
-#[derive(Drop)]
+#[derive(Clone, Copy)]
 struct UnitRow {
     result: u8,
     sets: u8,
@@ -16,7 +16,7 @@ struct UnitRow {
 }
 
 // Result and flags, or the number of the refusal and 0 for both.
-#[derive(Drop)]
+#[derive(Clone, Copy)]
 pub struct Computed {
     pub refusal: u8,
     pub result: u8,

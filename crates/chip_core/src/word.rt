@@ -6,7 +6,7 @@ use super::address::{DataAddress, ProgramAddress};
 use super::refusal::{ACCEPTED, FIELD_OUT_OF_RANGE, WORD_ABOVE_4095};
 
 // The kinds of document 01's table of words, with its fields.
-#[derive(Drop)]
+#[derive(Clone, Copy)]
 pub enum Instruction {
     S { k: u8 },
     Goto { target: ProgramAddress },
@@ -16,14 +16,14 @@ pub enum Instruction {
 }
 
 // What a word means, or the number of its refusal.
-#[derive(Drop)]
+#[derive(Clone, Copy)]
 pub enum Decoded {
     Accepted(Instruction),
     Refused(u8),
 }
 
 // The word of an instruction, or the number of the refusal and the word 0.
-#[derive(Drop)]
+#[derive(Clone, Copy)]
 pub struct Encoded {
     pub refusal: u8,
     pub word: u16,

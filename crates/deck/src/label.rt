@@ -6,7 +6,7 @@ ghost use Rattle.deck.specs.Private.{Complete};
 use super::bytes::{label_count, label_line};
 
 // The line of a label, or none.
-#[derive(Drop)]
+#[derive(Clone, Copy)]
 pub(crate) enum Label {
     Line(u16),
     Missing,

@@ -1,5 +1,7 @@
 // Decks, above the core: their check, the translator, the line runner and the listing text, as document 01 says them. They rest only on what the core
 // promises.
+#![tactic(auto)]
+
 mod address;
 mod bytes;
 pub mod check;

@@ -13,7 +13,7 @@ use chip_core::address::DataAddress;
 use chip_core::refusal::{OPERAND_NOT_ALLOWED, OPERATION_ABOVE_27, SECOND_BYTE_NOT_ALLOWED};
 
 // What a line is, or the number of its refusal.
-#[derive(Drop)]
+#[derive(Clone, Copy)]
 pub(crate) enum Line {
     Accepted(Operation),
     Refused(u8),

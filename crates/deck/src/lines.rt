@@ -17,7 +17,7 @@ use chip_core::unit::unit;
 use chip_core::word::is_flag_set;
 
 // What a run of lines reached, or the number of the refusal and 0 for the rest.
-#[derive(Drop)]
+#[derive(Clone, Copy)]
 pub struct LinesRun {
     pub refusal: u8,
     pub lines: u32,
@@ -29,14 +29,14 @@ pub struct LinesRun {
 }
 
 // Acc and flags. The cells stand in the caller's memory.
-#[derive(Drop)]
+#[derive(Clone, Copy)]
 struct Registers {
     acc: u8,
     flags: u8,
 }
 
 // Where a run stands, and what it has counted.
-#[derive(Drop)]
+#[derive(Clone, Copy)]
 struct Reached {
     position: u16,
     registers: Registers,

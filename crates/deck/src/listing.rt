@@ -8,7 +8,7 @@ use super::translate::translate;
 use chip_core::refusal::{ACCEPTED, OUTPUT_TOO_SHORT};
 
 // The count of bytes written, or the number of the refusal and 0.
-#[derive(Drop)]
+#[derive(Clone, Copy)]
 pub struct Listed {
     pub refusal: u8,
     pub count: usize,

@@ -2,7 +2,7 @@
 use chip_core::address::DataAddress;
 
 // A line's operation, with its label looked up: a jump has the line that it jumps to.
-#[derive(Drop)]
+#[derive(Clone, Copy)]
 pub(crate) enum Operation {
     M { d: u8, mode: u8, cell: DataAddress },
     I { mode: u8, immediate: u8 },

@@ -19,7 +19,7 @@ use chip_core::refusal::{ACCEPTED, OUTPUT_TOO_SHORT};
 use chip_core::word::{Instruction, encode};
 
 // The count of words written, or the number of the refusal and 0.
-#[derive(Drop)]
+#[derive(Clone, Copy)]
 pub struct Translated {
     pub refusal: u8,
     pub words: u16,

@@ -1,4 +1,6 @@
 // The listing program: a deck on standard input, its listing on standard output.
+#![tactic(auto)]
+
 use deck::listing::listing;
 use libc::{STDIN_FILENO, STDOUT_FILENO};
 

@@ -1,5 +1,7 @@
 // Document 01's numbers, 003's test programs, decks, refusals and digests of answers, each by a call of the libraries. The crate's file `stdout`
 // holds what an independent model of document 01 prints.
+#![tactic(auto)]
+
 mod calls;
 mod decks;
 mod digests;

@@ -9,7 +9,7 @@ use chip_core::control::row;
 use chip_core::machine::{Clocked, Machine};
 
 // The call that a digest is of.
-#[derive(Drop)]
+#[derive(Clone, Copy)]
 enum Call {
     Clock,
     Instruction,

@@ -5,7 +5,7 @@ use chip_core::unit::unit;
 use chip_core::word::{Instruction, decode, encode};
 
 // What n stands for.
-#[derive(Drop)]
+#[derive(Clone, Copy)]
 pub(crate) enum Sweep {
     // a and b of the unit, a byte each; SR is 0 and then 15
     Unit { mode: u8 },
