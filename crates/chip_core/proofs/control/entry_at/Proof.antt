@@ -3,7 +3,7 @@
 use Rattle.std.proofs.Common.{ℕ, List, ◌∷◌, ◌++◌, replicate, rules}
 use Rattle.chip_core.specs.Control.{control_row}
 use Rattle.chip_core.specs.Word.{instruction_at, flag}
-use Rattle.chip_core.proofs.ClockTable.{at_entry_lem}
+use Rattle.chip_core.proofs.ClockTable.{at_entry}
 use Rattle.chip_core.proofs.control.entry_at.Statement.{statement}
 use Rattle.chip_core.proofs.control.entry_at.Tie as tie
 
@@ -18,7 +18,7 @@ returns : tie.Need-returns
 unfolding control_row instruction_at flag
 returns c =
     let x = c.before.args in
-    rw c.stage-number.ensures.0 (at_entry_lem table x.stage x.top (search rules) tt)
+    rw c.stage_number.ensures.0 (at_entry table x.stage x.top (search rules) tt)
 
 pub entry_at_spec : {M : Type 1} → statement M
 entry_at_spec =

@@ -7,7 +7,7 @@ use Rattle.chip_core.proofs.control.refused.Statement.{statement}
 use Rattle.chip_core.proofs.control.refused.Tie as tie
 
 returns : tie.Need-returns
-returns c = rw (either_way (eqb c.before.args.refusal 0) (row_with 0 0 0 0), c.row-with.ensures)
+returns c = rw (either_way (eqb c.before.args.refusal 0) (row_with 0 0 0 0), c.row_with.ensures)
 
 pub refused_spec : {M : Type 1} → statement M
 refused_spec = tie.close (tie.spec (λ c κs. search rules) returns)

@@ -5,7 +5,7 @@ use Rattle.chip_core.proofs.Shift.{turns}
 use Rattle.chip_core.proofs.unit.rotated_left.Statement.{statement}
 use Rattle.chip_core.proofs.unit.rotated_left.Tie as tie
 
-cast-result : tie.Need-overflow-cast-result
+cast-result : tie.Need-overflow_cast-result
 cast-result c = record { fits = (turns c.args.b c.args.n (search rules) c.requires).1 }
 
 returns : tie.Need-returns

@@ -1,14 +1,14 @@
 -- `chip_core::word::bits` meets its promise: one less than 2 moved up by high - low is the mask of the field (`cut`), over every width.
 -- Assumes nothing.
 use Rattle.std.proofs.Common.{arith, rules}
-use Rattle.chip_core.proofs.Field.{mask_Fits, cut, bits_lt}
+use Rattle.chip_core.proofs.Field.{mask_fits, cut, bits_lt}
 use Rattle.chip_core.proofs.word.bits.Statement.{statement}
 use Rattle.chip_core.proofs.word.bits.Tie as tie
 
-sub-mask-2 : tie.Need-overflow-sub-mask-2
-sub-mask-2 c = mask_Fits 16 c.args.high c.args.low (omega arith) (omega arith)
+sub-mask-2 : tie.Need-overflow_sub-mask-2
+sub-mask-2 c = mask_fits 16 c.args.high c.args.low (omega arith) (omega arith)
 
-cast-result : tie.Need-overflow-cast-result
+cast-result : tie.Need-overflow_cast-result
 cast-result c =
     record {
       fits =

@@ -1,0 +1,10 @@
+-- Of the words passed only the largest counts, and those ahead are still to be seen.
+use Rattle.std.proofs.Common.{◌≡◌, ◌-◌, ◌≤◌, ◌||◌, ltb, length, drop}
+use Rattle.chip_core.specs.Machine.{any_above_4095}
+use Rattle.chip_core.proofs.image.any_above_4095.Given as goal
+
+abbrev pub invariant-loop-i : goal.invariant-loop-i
+invariant-loop-i l = (l.i ≤ length l.image) × ((ltb 4095 l.largest || any_above_4095 (drop l.i l.image)) ≡ any_above_4095 l.image)
+
+abbrev pub decreases-loop-i : goal.decreases-loop-i
+decreases-loop-i l = length l.image - l.i
