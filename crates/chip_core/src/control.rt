@@ -190,6 +190,7 @@ fn refused(refusal: u8) -> Controlled
 }
 
 // The control row of a word at a stage, with the flags in SR. Refuses 10: word above 4095; then 13: SR above 15.
+#[tactic(auto, unfolding(crate::specs::Control::controlled))]
 pub fn row(word: u16, stage: Stage, sr: u8) -> Controlled
     ensures { RowPromise word stage sr result }
 {

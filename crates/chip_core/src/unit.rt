@@ -109,6 +109,7 @@ fn row(res: u8, sets: u8, carry: bool, overflow: bool) -> UnitRow
 }
 
 // The table, a row a mode: result, sets, C, O. C of a subtraction is a borrow: modes 1, 7, 9 and F.
+#[tactic(auto, unfolding(crate::specs::Unit::table))]
 fn row_at(mode: u8, a: u8, b: u8) -> UnitRow
     requires { mode < 16 }
     ensures { result ≡ row_at mode a b }
@@ -169,6 +170,7 @@ fn refused(refusal: u8) -> Computed
 }
 
 // Result and flags of a mode on a and b, after the flags in SR. Refuses 14: mode above 15; then 13: SR above 15.
+#[tactic(auto, using(crate::proofs::Flags::masked), unfolding(crate::specs::Unit::computed, crate::specs::Unit::unit_result, crate::specs::Unit::unit_flags))]
 pub fn unit(mode: u8, a: u8, b: u8, sr: u8) -> Computed
     ensures { UnitPromise mode a b sr result }
 {
