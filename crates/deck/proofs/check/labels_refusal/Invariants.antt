@@ -1,0 +1,11 @@
+-- The labels before the one that the loop has come to have passed.
+use Rattle.std.proofs.Common.{◌≡◌, ◌-◌, ◌≤◌}
+use Rattle.chip_core.specs.Refusal.{accepted, first_broken}
+use Rattle.deck.specs.Deck.{each, checks_of_label}
+use Rattle.deck.proofs.check.labels_refusal.Given as goal
+
+abbrev pub invariant-loop-label : goal.invariant-loop-label
+invariant-loop-label l = (l.label ≤ l.labels) × (first_broken (each (checks_of_label l.deck) l.label) ≡ accepted)
+
+abbrev pub decreases-loop-label : goal.decreases-loop-label
+decreases-loop-label l = l.labels - l.label
