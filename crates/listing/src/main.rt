@@ -1,8 +1,11 @@
 // The listing program: a deck on standard input, its listing on standard output.
 #![tactic(auto)]
 
+ghost use Rattle.std.specs.Prelude.{◌≤◌, length, IfOk};
+
 use deck::listing::listing;
-use libc::{STDIN_FILENO, STDOUT_FILENO};
+use std::io;
+use std::io::Read;
 
 // "at most 1,282 bytes (more cannot alter the answer)": one more than the longest deck, 1 + 2 * 255 + 2 + 3 * 256.
 const MOST: usize = 1282;
@@ -10,15 +13,30 @@ const MOST: usize = 1282;
 // `words 256` and 256 lines of seven bytes.
 const LONGEST: usize = 1802;
 
-fn list(deck: &[u8], text: &mut [u8]) {
-    let listed = listing(deck, text);
-    let count = listed.count;
-    io::write_all(STDOUT_FILENO, &text[..count]);
+// Reads until the buffer is full or the input ends, however short the reads are, and gives the count of bytes read.
+fn read_full(input: &mut impl Read, buffer: &mut [u8]) -> io::Result<usize>
+    ensures { IfOk result (λ count. count ≤ length buffer.new) }
+{
+    let mut count = 0;
+    while count < buffer.len() {
+        let came = input.read(&mut buffer[count..])?;
+        if came == 0 {
+            break;
+        }
+        count += came;
+    }
+    Ok(count)
 }
 
-fn main() {
+fn list(rt: &impl Print, deck: &[u8], text: &mut [u8]) -> io::Result<()> {
+    let listed = listing(deck, text);
+    let count = listed.count;
+    rt.write_all(&text[..count])
+}
+
+fn main(rt: HostRuntime) -> io::Result<()> {
     let mut input = [0u8; MOST];
     let mut text = [0u8; LONGEST];
-    let count = io::read_full(STDIN_FILENO, &mut input);
-    list(&input[..count], &mut text);
+    let count = read_full(&mut rt.reader(), &mut input)?;
+    list(&rt, &input[..count], &mut text)
 }
