@@ -1,4 +1,5 @@
 // The number of lines asked for: the program's one argument.
+use std::env::{Env, FillError};
 
 #[derive(Clone, Copy)]
 pub(crate) enum Asked {
@@ -11,10 +12,11 @@ const MOST_DIGITS: usize = 10;
 
 // A decimal number of 32 bits. No digits are none.
 fn number_in(digits: &[u8]) -> Asked {
+    if digits.is_empty() {
+        return Asked::Malformed;
+    }
     let mut number: u64 = 0;
-    let mut place: usize = 0;
-    while place < digits.len() {
-        let digit = digits[place];
+    for &digit in digits {
         if digit < b'0' || b'9' < digit {
             return Asked::Malformed;
         }
@@ -22,20 +24,18 @@ fn number_in(digits: &[u8]) -> Asked {
         if 4_294_967_295 < number {
             return Asked::Malformed;
         }
-        place += 1;
-    }
-    if place == 0 {
-        return Asked::Malformed;
     }
     Asked::Lines(number as u32)
 }
 
-// `os::arg` answers 0 for an argument that is missing or does not fit. The program's own name is counted too.
-pub(crate) fn lines_asked() -> Asked {
+// `arg` gives no count of bytes for an argument that is missing or does not fit. Argument 0 is the program's own name.
+pub(crate) fn lines_asked(rt: &impl Env) -> Asked {
     let mut digits = [0u8; MOST_DIGITS];
-    let count = os::arg(1, &mut digits);
-    if os::arg_count() != 2 {
+    let Ok(count) = rt.arg(1, &mut digits) else {
         return Asked::Malformed;
+    };
+    match rt.arg(2, &mut []) {
+        Err(FillError::NotPresent) => number_in(&digits[..count]),
+        _ => Asked::Malformed,
     }
-    number_in(&digits[..count])
 }
