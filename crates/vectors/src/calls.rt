@@ -1,38 +1,38 @@
 // Calls on both sides of each rule of "Instruction, clock and run: 11, 10, 12, 13, and for the instruction 33 last", and of a row's 10 and 13.
-use super::text::{print, print_decimal, print_hex};
+use super::text::{print, print_decimal, print_hex, print_long};
 use super::trace::print_row;
 use chip_core::address::ProgramAddress;
 use chip_core::clock::{clock, instruction, run};
 use chip_core::control::{Stage, row};
 use chip_core::machine::{Clocked, Machine};
 use chip_core::refusal::ACCEPTED;
-use libc::STDOUT_FILENO;
+use std::io;
 
-pub(crate) fn print_rows() {
-    print_row_of(0x0FFF, 2, 0x0F);
-    print_row_of(0x1000, 2, 0x0F);
-    print_row_of(0x0FFF, 2, 0x10);
-    print_row_of(0x1000, 0, 0x10);
-    print_row_of(0x0704, 2, 0x08);
-    print_row_of(0x0704, 2, 0x07);
-    print_row_of(0x0210, 2, 0x00);
-    print_row_of(0x0310, 2, 0x00);
-    print_row_of(0x0210, 1, 0x00);
+pub(crate) fn print_rows(rt: &impl Print) -> io::Result<()> {
+    print_row_of(rt, 0x0FFF, 2, 0x0F)?;
+    print_row_of(rt, 0x1000, 2, 0x0F)?;
+    print_row_of(rt, 0x0FFF, 2, 0x10)?;
+    print_row_of(rt, 0x1000, 0, 0x10)?;
+    print_row_of(rt, 0x0704, 2, 0x08)?;
+    print_row_of(rt, 0x0704, 2, 0x07)?;
+    print_row_of(rt, 0x0210, 2, 0x00)?;
+    print_row_of(rt, 0x0310, 2, 0x00)?;
+    print_row_of(rt, 0x0210, 1, 0x00)
 }
 
-fn print_row_of(word: u16, stage: u8, sr: u8) {
+fn print_row_of(rt: &impl Print, word: u16, stage: u8, sr: u8) -> io::Result<()> {
     let answer = row(word, stage_at(stage), sr);
-    print(b"row ");
-    print_hex(word as u32, 4);
-    print(b", ");
-    print_decimal(stage);
-    print(b", ");
-    print_hex(sr as u32, 2);
-    print(b" -> ");
-    print_decimal(answer.refusal);
-    print(b", ");
-    print_row(answer.row, b", ");
-    print(b"\n");
+    print(rt, b"row ")?;
+    print_hex(rt, word as u32, 4)?;
+    print(rt, b", ")?;
+    print_decimal(rt, stage)?;
+    print(rt, b", ")?;
+    print_hex(rt, sr as u32, 2)?;
+    print(rt, b" -> ")?;
+    print_decimal(rt, answer.refusal)?;
+    print(rt, b", ")?;
+    print_row(rt, answer.row, b", ")?;
+    print(rt, b"\n")
 }
 
 // 0 FETCH, 1 DECODE, 2 EXECUTE
@@ -53,19 +53,19 @@ pub(crate) fn stage_number(stage: Stage) -> u8 {
 }
 
 // The words of the image and the last of them, the cells; SR, IR and stage.
-pub(crate) fn print_calls() {
-    print_call(256, 0x0FFF, 16, machine_of(0x0F, 0x0FFF, 0));
-    print_call(257, 0x0FFF, 16, machine_of(0x0F, 0x0FFF, 0));
-    print_call(257, 0x1000, 15, machine_of(0x10, 0x1000, 1));
-    print_call(256, 0x1000, 15, machine_of(0x10, 0x1000, 1));
-    print_call(256, 0x0FFF, 15, machine_of(0x10, 0x1000, 1));
-    print_call(256, 0x0FFF, 17, machine_of(0x00, 0x0000, 0));
-    print_call(256, 0x0FFF, 16, machine_of(0x10, 0x0000, 1));
-    print_call(256, 0x0FFF, 16, machine_of(0x0F, 0x1000, 2));
-    print_call(256, 0x0FFF, 16, machine_of(0x0F, 0x0FFF, 1));
-    print_call(256, 0x0FFF, 16, machine_of(0x0F, 0x0FFF, 2));
-    print_call(0, 0x0000, 16, machine_of(0x00, 0x0000, 0));
-    print_call(1, 0x1000, 16, machine_of(0x00, 0x0000, 0));
+pub(crate) fn print_calls(rt: &impl Print) -> io::Result<()> {
+    print_call(rt, 256, 0x0FFF, 16, machine_of(0x0F, 0x0FFF, 0))?;
+    print_call(rt, 257, 0x0FFF, 16, machine_of(0x0F, 0x0FFF, 0))?;
+    print_call(rt, 257, 0x1000, 15, machine_of(0x10, 0x1000, 1))?;
+    print_call(rt, 256, 0x1000, 15, machine_of(0x10, 0x1000, 1))?;
+    print_call(rt, 256, 0x0FFF, 15, machine_of(0x10, 0x1000, 1))?;
+    print_call(rt, 256, 0x0FFF, 17, machine_of(0x00, 0x0000, 0))?;
+    print_call(rt, 256, 0x0FFF, 16, machine_of(0x10, 0x0000, 1))?;
+    print_call(rt, 256, 0x0FFF, 16, machine_of(0x0F, 0x1000, 2))?;
+    print_call(rt, 256, 0x0FFF, 16, machine_of(0x0F, 0x0FFF, 1))?;
+    print_call(rt, 256, 0x0FFF, 16, machine_of(0x0F, 0x0FFF, 2))?;
+    print_call(rt, 0, 0x0000, 16, machine_of(0x00, 0x0000, 0))?;
+    print_call(rt, 1, 0x1000, 16, machine_of(0x00, 0x0000, 0))
 }
 
 fn machine_of(sr: u8, ir: u16, stage: u8) -> Machine {
@@ -79,13 +79,26 @@ fn machine_of(sr: u8, ir: u16, stage: u8) -> Machine {
     }
 }
 
-fn print_call(words: u16, last: u16, count: u8, machine: Machine) {
-    print_case(words, last, count, machine);
+fn print_call(
+    rt: &impl Print,
+    words: u16,
+    last: u16,
+    count: u8,
+    machine: Machine,
+) -> io::Result<()> {
+    print_case(rt, words, last, count, machine)?;
     let mut image: [u16; 257] = [0; 257];
     write_last(&mut image, words as usize, last);
     let mut cells: [u8; 17] = [0; 17];
-    print_part(&image, words as usize, &mut cells, count as usize, machine);
-    print(b"\n");
+    print_part(
+        rt,
+        &image,
+        words as usize,
+        &mut cells,
+        count as usize,
+        machine,
+    )?;
+    print(rt, b"\n")
 }
 
 fn write_last(image: &mut [u16], words: usize, last: u16) {
@@ -96,74 +109,100 @@ fn write_last(image: &mut [u16], words: usize, last: u16) {
     }
 }
 
-fn print_case(words: u16, last: u16, count: u8, machine: Machine) {
-    io::print_decimal(STDOUT_FILENO, words as u64);
-    print(b" words, last ");
-    print_hex(last as u32, 4);
-    print(b", ");
-    print_decimal(count);
-    print(b" cells, sr ");
-    print_hex(machine.sr as u32, 2);
-    print(b", ir ");
-    print_hex(machine.ir as u32, 4);
-    print(b", stage ");
+fn print_case(
+    rt: &impl Print,
+    words: u16,
+    last: u16,
+    count: u8,
+    machine: Machine,
+) -> io::Result<()> {
+    print_long(rt, words as u64)?;
+    print(rt, b" words, last ")?;
+    print_hex(rt, last as u32, 4)?;
+    print(rt, b", ")?;
+    print_decimal(rt, count)?;
+    print(rt, b" cells, sr ")?;
+    print_hex(rt, machine.sr as u32, 2)?;
+    print(rt, b", ir ")?;
+    print_hex(rt, machine.ir as u32, 4)?;
+    print(rt, b", stage ")?;
     let stage = machine.stage;
-    print_decimal(stage_number(stage));
+    print_decimal(rt, stage_number(stage))
 }
 
-fn print_part(image: &[u16], words: usize, cells: &mut [u8], count: usize, machine: Machine) {
+fn print_part(
+    rt: &impl Print,
+    image: &[u16],
+    words: usize,
+    cells: &mut [u8],
+    count: usize,
+    machine: Machine,
+) -> io::Result<()> {
     if words <= image.len() {
         if count <= cells.len() {
-            print_answers(&image[..words], &mut cells[..count], machine);
+            print_answers(rt, &image[..words], &mut cells[..count], machine)?;
         }
     }
+    Ok(())
 }
 
-fn print_answers(image: &[u16], cells: &mut [u8], machine: Machine) {
-    print_clock(image, cells, machine);
-    print_instruction(image, cells, machine);
-    print_run(image, cells, machine);
+fn print_answers(
+    rt: &impl Print,
+    image: &[u16],
+    cells: &mut [u8],
+    machine: Machine,
+) -> io::Result<()> {
+    print_clock(rt, image, cells, machine)?;
+    print_instruction(rt, image, cells, machine)?;
+    print_run(rt, image, cells, machine)
 }
 
-fn print_clock(image: &[u16], cells: &mut [u8], machine: Machine) {
+fn print_clock(
+    rt: &impl Print,
+    image: &[u16],
+    cells: &mut [u8],
+    machine: Machine,
+) -> io::Result<()> {
     fill_5a(cells);
     let answer = clock(machine, image, cells);
-    print(b": clock ");
-    print_answer(answer, machine, cells);
+    print(rt, b": clock ")?;
+    print_answer(rt, answer, machine, cells)
 }
 
-fn print_instruction(image: &[u16], cells: &mut [u8], machine: Machine) {
+fn print_instruction(
+    rt: &impl Print,
+    image: &[u16],
+    cells: &mut [u8],
+    machine: Machine,
+) -> io::Result<()> {
     fill_5a(cells);
     let answer = instruction(machine, image, cells);
-    print(b", instruction ");
-    print_answer(answer, machine, cells);
+    print(rt, b", instruction ")?;
+    print_answer(rt, answer, machine, cells)
 }
 
-fn print_run(image: &[u16], cells: &mut [u8], machine: Machine) {
+fn print_run(rt: &impl Print, image: &[u16], cells: &mut [u8], machine: Machine) -> io::Result<()> {
     fill_5a(cells);
     let answer = run(machine, image, cells, 4);
-    print(b", run ");
-    print_answer(answer, machine, cells);
+    print(rt, b", run ")?;
+    print_answer(rt, answer, machine, cells)
 }
 
 fn fill_5a(cells: &mut [u8]) {
-    let mut i = 0;
-    while i < cells.len() {
-        cells[i] = 0x5A;
-        i += 1;
-    }
+    cells.fill(0x5A);
 }
 
 // The number, and whether a refused call kept the machine and the cells.
-fn print_answer(answer: Clocked, before: Machine, cells: &[u8]) {
-    print_decimal(answer.refusal);
+fn print_answer(rt: &impl Print, answer: Clocked, before: Machine, cells: &[u8]) -> io::Result<()> {
+    print_decimal(rt, answer.refusal)?;
     if answer.refusal != ACCEPTED {
         if same(answer.machine, before) & all_5a(cells) {
-            print(b" kept");
+            print(rt, b" kept")?;
         } else {
-            print(b" CHANGED");
+            print(rt, b" CHANGED")?;
         }
     }
+    Ok(())
 }
 
 fn same(a: Machine, b: Machine) -> bool {
@@ -174,10 +213,5 @@ fn same(a: Machine, b: Machine) -> bool {
 }
 
 fn all_5a(cells: &[u8]) -> bool {
-    for i in 0..cells.len() {
-        if cells[i] != 0x5A {
-            return false;
-        }
-    }
-    true
+    cells.iter().all(|cell| *cell == 0x5A)
 }

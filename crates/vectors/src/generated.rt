@@ -2,10 +2,8 @@
 
 // One label, at line 0, and NOP lines, but the last line has this operation, on Z if it is a jump.
 pub(crate) fn fill_nops(deck: &mut [u8], lines: u16, last: u8) {
-    let mut place: usize = 0;
-    while place < deck.len() {
+    for place in 0..deck.len() {
         deck[place] = nops_byte(place, deck.len(), lines, last);
-        place += 1;
     }
 }
 
@@ -38,10 +36,8 @@ fn nops_before(place: usize, lines: u16) -> u8 {
 
 // Four labels and 64 lines, in which all operations come up.
 pub(crate) fn fill_mixed(deck: &mut [u8], number: usize) {
-    let mut place: usize = 0;
-    while place < deck.len() {
+    for place in 0..deck.len() {
         deck[place] = mixed_byte(place, number);
-        place += 1;
     }
 }
 

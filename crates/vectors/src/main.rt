@@ -15,14 +15,16 @@ mod sweep;
 mod text;
 mod trace;
 
-fn main() {
-    numbers::print_numbers();
-    refusals::print_refusals();
-    digests::print_digests();
-    programs::print_programs();
-    programs::print_traces();
-    calls::print_rows();
-    calls::print_calls();
-    states::print_state_digests();
-    decks::print_decks();
+use std::io;
+
+fn main(rt: HostRuntime) -> io::Result<()> {
+    numbers::print_numbers(&rt)?;
+    refusals::print_refusals(&rt)?;
+    digests::print_digests(&rt)?;
+    programs::print_programs(&rt)?;
+    programs::print_traces(&rt)?;
+    calls::print_rows(&rt)?;
+    calls::print_calls(&rt)?;
+    states::print_state_digests(&rt)?;
+    decks::print_decks(&rt)
 }

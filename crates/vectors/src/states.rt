@@ -7,6 +7,7 @@ use chip_core::address::ProgramAddress;
 use chip_core::clock::{clock, instruction, run};
 use chip_core::control::row;
 use chip_core::machine::{Clocked, Machine};
+use std::io;
 
 // The call that a digest is of.
 #[derive(Clone, Copy)]
@@ -16,15 +17,15 @@ enum Call {
     Run,
 }
 
-pub(crate) fn print_state_digests() {
-    print(b"digest of row");
-    print_digest(rows(START));
-    print(b"digest of clock");
-    print_digest(called(Call::Clock));
-    print(b"digest of instruction");
-    print_digest(called(Call::Instruction));
-    print(b"digest of run");
-    print_digest(called(Call::Run));
+pub(crate) fn print_state_digests(rt: &impl Print) -> io::Result<()> {
+    print(rt, b"digest of row")?;
+    print_digest(rt, rows(START))?;
+    print(rt, b"digest of clock")?;
+    print_digest(rt, called(Call::Clock))?;
+    print(rt, b"digest of instruction")?;
+    print_digest(rt, called(Call::Instruction))?;
+    print(rt, b"digest of run")?;
+    print_digest(rt, called(Call::Run))
 }
 
 fn rows(before: u32) -> u32 {
@@ -87,28 +88,22 @@ fn called(call: Call) -> u32 {
 }
 
 fn fill_image(image: &mut [u16]) {
-    let mut i = 0;
-    while i < image.len() {
+    for i in 0..image.len() {
         image[i] = (mixed((i % 65536) as u16, 99) % 4096) as u16;
-        i += 1;
     }
 }
 
 fn fill_cells(cells: &mut [u8]) {
-    let mut i = 0;
-    while i < cells.len() {
+    for i in 0..cells.len() {
         cells[i] = byte((i % 65536) as u16, 7);
-        i += 1;
     }
 }
 
 fn digest_of(call: Call, image: &[u16], cells: &mut [u8]) -> u32 {
     let mut digest = START;
-    let mut n: u16 = 0;
-    while n < 10000 {
+    for n in 0..10000 {
         let answer = answer_of(call, n, image, cells);
         digest = fold_cells(fold_clocked(digest, answer), cells);
-        n += 1;
     }
     digest
 }
@@ -136,8 +131,8 @@ fn fold_clocked(before: u32, answer: Clocked) -> u32 {
 
 fn fold_cells(before: u32, cells: &[u8]) -> u32 {
     let mut digest = before;
-    for i in 0..cells.len() {
-        digest = fold_byte(digest, cells[i]);
+    for &cell in cells {
+        digest = fold_byte(digest, cell);
     }
     digest
 }
