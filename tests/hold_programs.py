@@ -5,10 +5,7 @@ and `decks.agreement`, on random and damaged decks:
 
 import argparse
 import fcntl
-import os
-import platform
 import random
-import shutil
 import struct
 import subprocess
 import sys
@@ -20,26 +17,19 @@ from pathlib import Path
 
 import decks
 
-PROGRAMS = Path(__file__).resolve().parent.parent / "target" / "bin"
+CRATES = Path(__file__).resolve().parent.parent / "crates"
 
 # In seconds: a program that takes longer over one deck is ended.
 LIMIT = 60
 
 
+def program(name):
+    """Where `rt run` leaves a program when the crate is proved."""
+    return CRATES / name / "out" / name
+
+
 def command(name, arguments):
-    """A program as `rt` runs it: under the kit's loader and C library, and by the
-    kit's emulator where the kit has one, which is on processors that are not x86-64.
-    """
-    rt = Path(shutil.which("rt") or "/opt/rattle/bin/rt").resolve()
-    kit = Path(os.environ.get("RATTLE_HOME") or rt.parent.parent)
-    toolchain = kit / "on" / platform.machine() / "toolchain"
-    loader = toolchain / "lib" / "ld-linux-x86-64.so.2"
-    emulator = toolchain / "bin" / "qemu-x86_64"
-    program = [PROGRAMS / name, *arguments]
-    if not loader.exists():
-        return program
-    return [*([emulator] if emulator.exists() else []),
-            loader, "--library-path", loader.parent, *program]
+    return [program(name), *arguments]
 
 
 def started(words, standard_input):
@@ -172,8 +162,10 @@ def main():
     parser.add_argument("count", nargs="?", type=int, default=2000, help="of decks")
     parser.add_argument("seed", nargs="?", type=int, default=1)
     asked = parser.parse_args()
-    if not all((PROGRAMS / name).is_file() for name in ("listing", "agree")):
-        print(f"no programs in {PROGRAMS}: `rt check` in the repository's root builds them")
+    absent = [name for name in ("listing", "agree") if not program(name).is_file()]
+    for name in absent:
+        print(f"no {program(name)}: `rt run < stdin` in {CRATES / name} builds it")
+    if absent != []:
         return 2
     return hold(asked.count, asked.seed)
 

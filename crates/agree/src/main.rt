@@ -15,11 +15,6 @@ use std::io::Read;
 // One more than the longest deck; more cannot alter the answer.
 const MOST: usize = 1282;
 
-// Both ways begin with cells of 0.
-fn compare_and_report(rt: &impl Print, deck: &[u8], lines: u32) -> io::Result<()> {
-    report(rt, agree(deck, &[0u8; 16], lines))
-}
-
 // Reads until the buffer is full or the input ends, however short the reads are, and gives the count of bytes read.
 fn read_full(input: &mut impl Read, buffer: &mut [u8]) -> io::Result<usize>
     ensures { IfOk result (λ count. count ≤ length buffer.new) }
@@ -33,6 +28,11 @@ fn read_full(input: &mut impl Read, buffer: &mut [u8]) -> io::Result<usize>
         count += came;
     }
     Ok(count)
+}
+
+// Both ways begin with cells of 0.
+fn compare_and_report(rt: &impl Print, deck: &[u8], lines: u32) -> io::Result<()> {
+    report(rt, agree(deck, &[0u8; 16], lines))
 }
 
 fn read_and_compare(rt: &(impl Input + Print), lines: u32) -> io::Result<()> {
