@@ -11,6 +11,7 @@ use std::io;
 pub(crate) fn print_decks(rt: &impl Print) -> io::Result<()> {
     print_small(rt)?;
     print_refused(rt)?;
+    print_second_bytes(rt)?;
     print_ordered(rt)?;
     print_labels(rt)?;
     print_top(rt)?;
@@ -47,7 +48,11 @@ fn print_refused(rt: &impl Print) -> io::Result<()> {
         rt,
         b"with a label at line 256",
         b"\x01\x00\x01\x01\x00\x1B\x00\x00",
-    )?;
+    )
+}
+
+// Second bytes that an operation does not allow.
+fn print_second_bytes(rt: &impl Print) -> io::Result<()> {
     print_deck(
         rt,
         b"with I and a second byte 1",
