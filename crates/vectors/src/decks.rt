@@ -51,7 +51,7 @@ fn print_refused(rt: &impl Print) -> io::Result<()> {
     )
 }
 
-// Second bytes that an operation does not allow.
+// Second bytes that are not allowed, for each kind of operation but M.
 fn print_second_bytes(rt: &impl Print) -> io::Result<()> {
     print_deck(
         rt,
