@@ -96,7 +96,7 @@ def holds(words, deck, expected, way, generator, complaint=b""):
     not, says so.
     """
     status, written, complained = way(words, deck, generator)
-    if (written, complained) == (expected, complaint) and status >= 0:
+    if (written, complained) == (expected, complaint) and status == 0:
         return True
     print(f"{' '.join(map(str, words))}")
     print(f"deck of {len(deck)} bytes, {way.__name__}: {deck.hex()}")
