@@ -4,31 +4,14 @@
 mod asked;
 mod report;
 
-ghost use Rattle.std.specs.Prelude.{◌≤◌, length, IfOk};
-
 use agreement::agree::agree;
 use asked::{Asked, lines_asked};
+use reading::read_full;
 use report::report;
 use std::io;
-use std::io::Read;
 
 // One more than the longest deck; more cannot alter the answer.
 const MOST: usize = 1282;
-
-// Reads until the buffer is full or the input ends, however short the reads are, and gives the count of bytes read.
-fn read_full(input: &mut impl Read, buffer: &mut [u8]) -> io::Result<usize>
-    ensures { IfOk result (λ count. count ≤ length buffer.new) }
-{
-    let mut count = 0;
-    while count < buffer.len() {
-        let came = input.read(&mut buffer[count..])?;
-        if came == 0 {
-            break;
-        }
-        count += came;
-    }
-    Ok(count)
-}
 
 // Both ways begin with cells of 0.
 fn compare_and_report(rt: &impl Print, deck: &[u8], lines: u32) -> io::Result<()> {

@@ -1,32 +1,15 @@
 // The listing program: a deck on standard input, its listing on standard output.
 #![tactic(auto)]
 
-ghost use Rattle.std.specs.Prelude.{◌≤◌, length, IfOk};
-
 use deck::listing::listing;
+use reading::read_full;
 use std::io;
-use std::io::Read;
 
 // "at most 1,282 bytes (more cannot alter the answer)": one more than the longest deck, 1 + 2 * 255 + 2 + 3 * 256.
 const MOST: usize = 1282;
 
 // `words 256` and 256 lines of seven bytes.
 const LONGEST: usize = 1802;
-
-// Reads until the buffer is full or the input ends, however short the reads are, and gives the count of bytes read.
-fn read_full(input: &mut impl Read, buffer: &mut [u8]) -> io::Result<usize>
-    ensures { IfOk result (λ count. count ≤ length buffer.new) }
-{
-    let mut count = 0;
-    while count < buffer.len() {
-        let came = input.read(&mut buffer[count..])?;
-        if came == 0 {
-            break;
-        }
-        count += came;
-    }
-    Ok(count)
-}
 
 fn list(rt: &impl Print, deck: &[u8], text: &mut [u8]) -> io::Result<()> {
     let listed = listing(deck, text);
