@@ -5,23 +5,18 @@ mod asked;
 mod report;
 
 use agreement::agree::agree;
-use asked::{Asked, lines_asked};
+use asked::lines_asked;
+use deck::check::MOST_BYTES;
 use reading::read_full;
 use report::report;
 use std::io;
 
-// One more than the longest deck; more cannot alter the answer.
-const MOST: usize = 1282;
-
 // Both ways begin with cells of 0.
-fn compare_and_report(rt: &impl Print, deck: &[u8], lines: u32) -> io::Result<()> {
-    report(rt, agree(deck, &[0u8; 16], lines))
-}
-
 fn read_and_compare(rt: &(impl Input + Print), lines: u32) -> io::Result<()> {
-    let mut input = [0u8; MOST];
+    // `read_full` reads into memory that it is lent, and answers the count (`ReadFullPromise`).
+    let mut input = [0; MOST_BYTES];
     let count = read_full(&mut rt.reader(), &mut input)?;
-    compare_and_report(rt, &input[..count], lines)
+    report(rt, agree(&input[..count], &[0; 16], lines))
 }
 
 fn print_usage(rt: &impl Eprint) -> io::Result<()> {
@@ -32,7 +27,7 @@ fn print_usage(rt: &impl Eprint) -> io::Result<()> {
 
 fn main(rt: HostRuntime) -> io::Result<()> {
     match lines_asked(&rt) {
-        Asked::Lines(lines) => read_and_compare(&rt, lines),
-        Asked::Malformed => print_usage(&rt),
+        Some(lines) => read_and_compare(&rt, lines),
+        None => print_usage(&rt),
     }
 }

@@ -1,29 +1,35 @@
 -- The first difference between what the line runner came to and what the machine came to, of all that demand 3 says is the same.
 -- Assumes nothing.
-use Rattle.std.specs.Prelude.{ℕ, suc, cond, not, List, [], ◌∷◌, ◌==◌, nat_lt, slice_index}
+use Rattle.std.specs.Prelude.{ℕ, suc, cond, not, List, [], ◌∷◌, ◌==◌, slice_index, Option, Some, None, Result, Ok, Err}
 use Rattle.chip_core.specs.Instruction.{is_fetch}
-use Rattle.chip_core.specs.Refusal.{accepted}
-use Rattle.chip_core.specs.declared.machine.Clocked.{Clocked}
+use Rattle.chip_core.specs.declared.machine.Machine.{Machine}
+use Rattle.chip_core.specs.declared.refusal.Refusal.{Refusal}
 use Rattle.deck.specs.declared.lines.LinesRun.{LinesRun}
 use Rattle.agreement.specs.declared.difference.Difference.{Difference}
 
--- the first place where two rows of cells differ, and their length where they do not
-abbrev pub first_differing : List ℕ → List ℕ → ℕ
-first_differing [] others = 0
-first_differing (cell ∷ cells) [] = 0
-first_differing (cell ∷ cells) (other ∷ others) = cond (cell == other) (suc (first_differing cells others)) 0
+abbrev pub one_further : Option ℕ → Option ℕ
+one_further None = None
+one_further (Some place) = Some (suc place)
 
-abbrev pub difference_of_cells : List ℕ → List ℕ → Difference
-difference_of_cells cells others =
-    let place : ℕ = first_differing cells others in
-    cond (nat_lt place 16) (Difference.Cell place (slice_index cells place) (slice_index others place)) Difference.None
+-- the first place where two rows of cells differ, of those that both have
+abbrev pub first_differing : List ℕ → List ℕ → Option ℕ
+first_differing [] others = None
+first_differing (cell ∷ cells) [] = None
+first_differing (cell ∷ cells) (other ∷ others) = cond (cell == other) (one_further (first_differing cells others)) (Some 0)
+
+abbrev pub difference_at : List ℕ → List ℕ → Option ℕ → Option Difference
+difference_at cells others None = None
+difference_at cells others (Some place) = Some (Difference.Cell place (slice_index cells place) (slice_index others place))
+
+abbrev pub difference_of_cells : List ℕ → List ℕ → Option Difference
+difference_of_cells cells others = difference_at cells others (first_differing cells others)
 
 -- refusal, Acc, flags, PC and stage, then the cells in order: `cells` are those that the lines left, `others` those that the clocks left
-unfoldable pub first_difference : LinesRun → List ℕ → Clocked → List ℕ → Difference
-first_difference ran cells clocked others =
-    cond (not (clocked.refusal == accepted)) (Difference.Refusal clocked.refusal)
-    (cond (not (clocked.machine.acc == ran.acc)) (Difference.Acc ran.acc clocked.machine.acc)
-    (cond (not (clocked.machine.sr == ran.flags)) (Difference.Flags ran.flags clocked.machine.sr)
-    (cond (not (clocked.machine.pc.0 == ran.pc.0)) (Difference.Pc ran.pc.0 clocked.machine.pc.0)
-    (cond (not (is_fetch clocked.machine.stage)) Difference.Stage
-    (difference_of_cells cells others)))))
+unfoldable pub first_difference : LinesRun → List ℕ → Result Machine Refusal → List ℕ → Option Difference
+first_difference ran cells (Err refusal) others = Some (Difference.Refusal refusal)
+first_difference ran cells (Ok machine) others =
+    cond (not (machine.acc == ran.acc)) (Some (Difference.Acc ran.acc machine.acc))
+    (cond (not (machine.sr == ran.flags)) (Some (Difference.Flags ran.flags machine.sr))
+    (cond (not (machine.pc.0 == ran.pc.0)) (Some (Difference.Pc ran.pc.0 machine.pc.0))
+    (cond (not (is_fetch machine.stage)) (Some Difference.Stage)
+    (difference_of_cells cells others))))

@@ -1,6 +1,6 @@
 // Runs a deck both ways and compares. On an accepted deck the two always agree: that is demand 3, and what `agree` promises.
-ghost use Rattle.std.specs.Prelude.{◌≡◌, length};
-ghost use Rattle.agreement.specs.Agree.{AgreePromise, refused_as};
+ghost use Rattle.std.specs.Prelude.{◌≡◌};
+ghost use Rattle.agreement.specs.Agree.{AgreePromise};
 ghost use Rattle.chip_core.specs.Clock.{RunPromise};
 ghost use Rattle.chip_core.specs.Machine.{freshly_loaded};
 ghost use Rattle.chip_core.specs.Refusal.{accepted};
@@ -10,87 +10,61 @@ ghost use Rattle.deck.specs.Operation.{program};
 
 use super::difference::{Difference, first_difference};
 use chip_core::clock::run;
-use chip_core::machine::{Clocked, fresh};
-use chip_core::refusal::{ACCEPTED, NOT_SIXTEEN_CELLS};
+use chip_core::machine::{Machine, fresh};
+use chip_core::refusal::Refusal;
 use deck::check::check;
 use deck::lines::run_lines;
 use deck::translate::translate;
 
-// The lines run, the clocks that they cost and the first difference; or the number of the refusal, 0 for the counts and no difference.
-#[derive(Clone, Copy)]
+// The lines run, the clocks that they cost and the first difference.
+#[derive(Clone, Copy, Debug, PartialEq, Eq)]
 pub struct Compared {
-    pub refusal: u8,
     pub lines: u32,
     pub clocks: u64,
-    pub difference: Difference,
-}
-
-fn refused(number: u8) -> Compared
-    ensures { result ≡ refused_as number }
-{
-    Compared {
-        refusal: number,
-        lines: 0,
-        clocks: 0,
-        difference: Difference::None,
-    }
-}
-
-fn copy(from: &[u8], to: &mut [u8])
-    requires { length from.now ≡ length to.old }
-    ensures { to.new ≡ from.now }
-{
-    let mut done: usize = 0;
-    while done < from.len() {
-        to[done] = from[done];
-        done += 1;
-    }
+    pub difference: Option<Difference>,
 }
 
 // The image of an accepted deck, clocked from a fresh load.
-fn clock_image(deck: &[u8], cells: &mut [u8], clocks: u64) -> Clocked
+fn clock_image(deck: &[u8], cells: &mut [u8], clocks: u64) -> Result<Machine, Refusal>
     requires { deck_refusal deck.now ≡ accepted }
     ensures { RunPromise clocks freshly_loaded (image (program deck.now)) cells.old result cells.new }
 {
+    // The translator writes into memory that it is lent, and answers the count (`TranslatePromise`).
     let mut words = [0u16; 256];
-    let translated = translate(deck, &mut words);
-    let count = translated.words as usize;
+    let count = translate(deck, &mut words).unwrap() as usize;
     run(fresh(), &words[..count], cells, clocks)
 }
 
 // Both ways, each on cells of its own that begin alike: `cells` for the lines, `others` for the clocks.
-fn run_both(deck: &[u8], cells: &mut [u8], others: &mut [u8], asked: u32) -> Compared
-    requires { (length cells.old ≡ 16) × (others.old ≡ cells.old) }
+fn run_both(
+    deck: &[u8],
+    cells: &mut [u8; 16],
+    others: &mut [u8; 16],
+    asked: u32,
+) -> Result<Compared, Refusal>
+    requires { others.old ≡ cells.old }
     ensures { AgreePromise asked deck.now cells.old result }
 {
-    let ran = run_lines(deck, cells, asked);
-    if ran.refusal != ACCEPTED {
-        return refused(ran.refusal);
-    }
+    let ran = run_lines(deck, cells, asked)?;
     let clocked = clock_image(deck, others, ran.clocks);
-    Compared {
-        refusal: ACCEPTED,
+    Ok(Compared {
         lines: ran.lines,
         clocks: ran.clocks,
         difference: first_difference(ran, cells, clocked, others),
-    }
+    })
 }
 
 // Refuses as `run_lines` does: 1 to 8 as `check`, then 12: not exactly 16 cells. That is found out before the cells are copied, which takes sixteen. The cells
 // handed in are only read, and both ways begin with them.
-pub fn agree(deck: &[u8], cells: &[u8], asked: u32) -> Compared
+#[tactic(auto, using(crate::proofs::Both::deck_refused, crate::proofs::Both::cells_refused))]
+pub fn agree(deck: &[u8], cells: &[u8], asked: u32) -> Result<Compared, Refusal>
     ensures { AgreePromise asked deck.now cells.now result }
 {
-    if cells.len() != 16 {
-        let refusal = check(deck);
-        if refusal != ACCEPTED {
-            return refused(refusal);
-        }
-        return refused(NOT_SIXTEEN_CELLS);
-    }
-    let mut line_cells = [0u8; 16];
-    let mut clock_cells = [0u8; 16];
-    copy(cells, &mut line_cells);
-    copy(cells, &mut clock_cells);
+    let Ok(sixteen) = <[u8; 16]>::try_from(cells) else {
+        check(deck)?;
+        return Err(Refusal::NotSixteenCells);
+    };
+    let mut line_cells = sixteen;
+    let mut clock_cells = sixteen;
     run_both(deck, &mut line_cells, &mut clock_cells, asked)
 }

@@ -1,10 +1,6 @@
--- Laws of a choice by a test: what holds of both answers holds of the one that is taken.
+-- A choice by a test: what holds of both answers holds of the one that is taken.
 -- Assumes nothing.
-use Rattle.std.proofs.Common.{◌≡◌, Bool, true, false, cond, refl}
-
-pub either_way : {A : Type 0} (test : Bool) (x : A) → cond test x x ≡ x
-either_way true x = refl
-either_way false x = refl
+use Rattle.std.proofs.Common.{Bool, true, false, cond}
 
 pub either : {A : Type 0} (P : A → Type 0) (test : Bool) (x y : A) → P x → P y → P (cond test x y)
 either P true x y p q = p

@@ -1,12 +1,16 @@
 -- What is known where a call over a machine is not refused, and how 33 stands after the other checks.
 -- Assumes nothing.
-use Rattle.std.proofs.Common.{◌≡◌, ℕ, ◌<◌, ◌≤◌, Bool, true, false, cond, not, ◌||◌, eqb, ltb, List, [], ◌∷◌, length, refl, true≢false, arith, ltb-false, eqb-true}
+use Rattle.std.proofs.Common.{◌≡◌, ℕ, ◌<◌, ◌≤◌, Bool, true, false, cond, not, ◌||◌, eqb, ltb, List, [], ◌∷◌, length, refl, true≢false, arith, ltb-false, eqb-true, Result, Ok, Err}
+use Rattle.std.specs.Result.{result_and}
 use borrow.Author.Tests.{not-false}
 use Rattle.chip_core.specs.Clock.{clock_refusal}
 use Rattle.chip_core.specs.Instruction.{is_fetch, instruction_refusal}
-use Rattle.chip_core.specs.Machine.{State, state, any_above_4095, machine_checks, clocked_as, Answers}
-use Rattle.chip_core.specs.Refusal.{accepted, fetch_not_next, check}
+use Rattle.chip_core.specs.Machine.{State, state, any_above_4095, machine_checks, leaves, Answers}
+use Rattle.chip_core.specs.Refusal.{accepted, fetch_not_next, check, refusal_number, answered}
 use Rattle.chip_core.specs.declared.machine.Machine.{Machine}
+use Rattle.chip_core.specs.declared.refusal.Refusal.{Refusal}
+use Rattle.chip_core.specs.declared.refusal.Refusal.TheVariants.{FetchNotNext}
+use Rattle.chip_core.proofs.Answered.{no_zero}
 use Rattle.chip_core.proofs.Finite.{◌&◌}
 use Rattle.chip_core.proofs.Order.{passed, tried_then}
 use Rattle.chip_core.proofs.Running.{Fit}
@@ -51,15 +55,14 @@ module _ (machine : Machine) (image : List ℕ) (count : ℕ) where
   unfolding instruction_refusal clock_refusal
   fetch_not_next_lem e = rw e (tried_then (machine_checks machine image count) (check true fetch_not_next ∷ []) (refl & refl & refl & refl & tt))
 
--- and that is never 0
-pub never_accepted : (n : ℕ) → eqb (cond (eqb n accepted) fetch_not_next n) accepted ≡ false
-never_accepted n = go (eqb n accepted) refl
-  where
-    go : (t : Bool) → eqb n accepted ≡ t → eqb (cond t fetch_not_next n) accepted ≡ false
-    go true e = refl
-    go false e = e
+-- a call that is refused answers no value, and leaves the cells
+refused : (number : ℕ) (before after : State) → eqb number accepted ≡ false
+    → (record { number = number; values = [] } ≡ answered number after.machine) × (before.cells ≡ (leaves number before after).cells)
+refused number before after e = rw e (refl, refl)
 
--- A refused call keeps all: its number, the machine and the cells that it was given, are what it promises.
-pub hands_back : (number : ℕ) (before after : State) → eqb number accepted ≡ false
-    → Answers number before after (clocked_as number before.machine) before.cells
-hands_back number before after e = rw e (refl, refl)
+-- which is what the answer of the checks gives, and 33 after it
+pub tries_33 : (checked : Result Unit Refusal) (before after : State)
+    → Answers (cond (eqb (refusal_number checked) accepted) fetch_not_next (refusal_number checked)) before after
+    (result_and checked (Err FetchNotNext)) before.cells
+tries_33 (Ok x) before after = (refl, refl)
+tries_33 (Err refusal) before after = rw (no_zero refusal) (refused _ before after (no_zero refusal))

@@ -1,12 +1,13 @@
 -- Words and instructions are two forms of one thing: a word cut into its fields and joined again is the word, and fields within their
 -- ranges, joined and cut again, are the fields, since each field has its own place. What is refused is exactly what is out of range.
 -- Assumes nothing.
-use Rattle.std.proofs.Common.{◌≡◌, ℕ, ◌+◌, ◌*◌, ◌/◌, ◌%◌, ◌^◌, ◌<◌, ◌≤◌, Bool, true, false, ◌↔◌, sym, refl, ap, ◌∙◌, arith, le-ltb, lt-ltb}
+use Rattle.std.proofs.Common.{◌≡◌, ℕ, ◌+◌, ◌*◌, ◌/◌, ◌%◌, ◌^◌, ◌<◌, ◌≤◌, Bool, true, false, ◌↔◌, sym, refl, ap, ◌∙◌, arith, le-ltb, lt-ltb, Result, Ok, Err}
 use native.Mathlib.Decide.{dec_lt}
 use lib.Pow.{field, high, low}
-use Rattle.chip_core.specs.Refusal.{accepted, word_above_4095, field_out_of_range}
-use Rattle.chip_core.specs.Word.{bits, program_address, instruction_at, word_of, in_range, decoded, encoded_as, encoded, DecodePromise, EncodePromise}
-use Rattle.chip_core.specs.declared.word.Decoded.{Decoded}
+use Rattle.chip_core.specs.Refusal.{accepted, field_out_of_range, answered}
+use Rattle.chip_core.specs.Word.{bits, program_address, instruction_at, word_of, in_range, decoded, encoded, DecodePromise, EncodePromise}
+use Rattle.chip_core.specs.declared.refusal.Refusal.{Refusal}
+use Rattle.chip_core.specs.declared.refusal.Refusal.TheVariants.{WordAbove4095}
 use Rattle.chip_core.specs.declared.word.Instruction.{Instruction}
 use Rattle.chip_core.specs.declared.word.Instruction.TheVariants.{S, Goto, M, JumpIf, I}
 use Rattle.chip_core.proofs.Answered.{encoded_in_range}
@@ -16,46 +17,44 @@ use Rattle.chip_core.proofs.Kind.{at_s, at_goto, at_m, at_jump_if, at_i, Kind, i
 use Rattle.chip_core.proofs.Range.{FieldsFit, fields_fit}
 
 -- what is accepted, and what it then is
-word_accepted : (word : ℕ) → word ≤ 4095 → DecodePromise word (Decoded.Accepted (instruction_at word))
+word_accepted : (word : ℕ) → word ≤ 4095 → DecodePromise word (Ok (instruction_at word))
 unfolding decoded
 word_accepted word h = simp (le-ltb 4095 word h)
 
-word_refused : (word : ℕ) → 4095 < word → DecodePromise word (Decoded.Refused word_above_4095)
+word_refused : (word : ℕ) → 4095 < word → DecodePromise word (Err WordAbove4095)
 unfolding decoded
 word_refused word h = simp (lt-ltb 4095 word h)
 
-instruction_refused : (i : Instruction) → in_range i ≡ false → encoded i ≡ encoded_as field_out_of_range 0
+instruction_refused : (i : Instruction) → in_range i ≡ false → encoded i ≡ answered field_out_of_range (word_of i)
 unfolding encoded
 instruction_refused i h = simp h
 
 -- THE DECODER REFUSES EXACTLY the words above 4095, and always with 10
-pub decoder_refuses : (word n : ℕ) → DecodePromise word (Decoded.Refused n) ↔ ((4095 < word) × (n ≡ word_above_4095))
-decoder_refuses word n = (there, λ h. rw h.1 (word_refused word h.0))
+pub decoder_refuses : (word : ℕ) (refusal : Refusal) → DecodePromise word (Err refusal) ↔ ((4095 < word) × (refusal ≡ WordAbove4095))
+decoder_refuses word refusal = (there, λ h. rw h.1 (word_refused word h.0))
   where
-    there : DecodePromise word (Decoded.Refused n) → (4095 < word) × (n ≡ word_above_4095)
+    there : DecodePromise word (Err refusal) → (4095 < word) × (refusal ≡ WordAbove4095)
     there p =
         elim (dec_lt 4095 word) [
-          | yes h ↦
-              let e : Decoded.Refused n ≡ Decoded.Refused word_above_4095 = decode_determined word _ _ p (word_refused word h) in
-              (h, cc)
+          | yes h ↦ let e : ◌≡◌ {A = Result Instruction Refusal} (Err refusal) (Err WordAbove4095) = decode_determined word _ _ p (word_refused word h) in (h, cc)
           | no h ↦
-              let e : Decoded.Refused n ≡ Decoded.Accepted (instruction_at word) = decode_determined word _ _ p (word_accepted word (omega arith)) in
-              let z : ◌≡◌ {A = ℕ} 0 1 = cc in absurd (omega arith)
+              let e : ◌≡◌ {A = Result Instruction Refusal} (Err refusal) (Ok (instruction_at word)) = decode_determined word _ _ p (word_accepted word (omega arith)) in
+              absurd cc
         ]
 
 -- THE ENCODER ACCEPTS EXACTLY the instructions in range, and refuses every other with 14
 pub encoder_refuses : (i : Instruction)
-    → (((encoded i).refusal ≡ accepted) ↔ (in_range i ≡ true)) × (((encoded i).refusal ≡ field_out_of_range) ↔ (in_range i ≡ false))
+    → (((encoded i).number ≡ accepted) ↔ (in_range i ≡ true)) × (((encoded i).number ≡ field_out_of_range) ↔ (in_range i ≡ false))
 encoder_refuses i = (
   (accepts (in_range i) refl, λ h. rw (encoded_in_range i h)),
   (refuses (in_range i) refl, λ h. rw (instruction_refused i h)),
 )
   where
-    accepts : (t : Bool) → in_range i ≡ t → (encoded i).refusal ≡ accepted → in_range i ≡ true
+    accepts : (t : Bool) → in_range i ≡ t → (encoded i).number ≡ accepted → in_range i ≡ true
     accepts true h e = h
     accepts false h e = let z : ◌≡◌ {A = ℕ} 14 0 = rw (instruction_refused i h) at e in absurd (omega arith)
 
-    refuses : (t : Bool) → in_range i ≡ t → (encoded i).refusal ≡ field_out_of_range → in_range i ≡ false
+    refuses : (t : Bool) → in_range i ≡ t → (encoded i).number ≡ field_out_of_range → in_range i ≡ false
     refuses true h e = let z : ◌≡◌ {A = ℕ} 0 14 = rw (encoded_in_range i h) at e in absurd (omega arith)
     refuses false h e = h
 
@@ -89,7 +88,7 @@ stands word h (is_i lo) =
 
 -- EVERY WORD 0 TO 4095 decodes to an instruction, the only one that the promise allows (Determined), and encoding that gives the word back
 pub word_back : (word : ℕ) → word ≤ 4095
-    → (i : Instruction) × DecodePromise word (Decoded.Accepted i) × EncodePromise i (encoded_as accepted word)
+    → (i : Instruction) × DecodePromise word (Ok i) × EncodePromise i (Ok word)
 word_back word h =
     let s = stands word h (kind word) in
     (instruction_at word, word_accepted word h, sym (rw s.1 at (encoded_in_range (instruction_at word) s.0)))
@@ -125,7 +124,7 @@ cut_again (I mode immediate) h =
 
 -- EVERY INSTRUCTION IN RANGE encodes to a word, the only one that the promise allows, and decoding that gives the instruction back
 pub instruction_back : (i : Instruction) → in_range i ≡ true
-    → (word : ℕ) × EncodePromise i (encoded_as accepted word) × DecodePromise word (Decoded.Accepted i)
+    → (word : ℕ) × EncodePromise i (Ok word) × DecodePromise word (Ok i)
 instruction_back i h =
     let c = cut_again i (fields_fit i h) in
     (word_of i, sym (encoded_in_range i h), rw c.1 at (word_accepted (word_of i) c.0))

@@ -1,13 +1,14 @@
 -- Clocking a machine call by call is a run: no accepted call leaves a machine that the next call refuses, and a refused one leaves it as it was.
 -- Assumes nothing.
-use Rattle.std.proofs.Common.{◌≡◌, ℕ, zero, suc, ◌<◌, Bool, true, false, eqb, ltb, List, [], ◌∷◌, length, get_or, refl, ap, arith, lit<, ltb-false, le-ltb, eq-eqb, eqb-true}
+use Rattle.std.proofs.Common.{◌≡◌, ◌≢◌, ℕ, zero, suc, ◌<◌, Bool, true, false, eqb, ltb, List, [], ◌∷◌, length, get_or, refl, ap, arith, lit<, ltb-false, le-ltb, eq-eqb, eqb-true, sym, ◌∙◌, true≢false, Result, Ok, Err}
 use Rattle.chip_core.specs.Clock.{ir_after, clock, clock_refusal, ClockPromise, RunPromise}
 use Rattle.chip_core.specs.Control.{enabled, ir_e, control_row}
 use Rattle.chip_core.specs.Iterate.{iterate}
-use Rattle.chip_core.specs.Machine.{State, state, undrawn, memory_of, any_above_4095, clocked_as}
-use Rattle.chip_core.specs.Refusal.{accepted}
-use Rattle.chip_core.specs.declared.machine.Clocked.{Clocked}
+use Rattle.chip_core.specs.Machine.{State, state, undrawn, memory_of, any_above_4095, leaves, Answers}
+use Rattle.chip_core.specs.Refusal.{accepted, NumberAndValues, refusal_number}
 use Rattle.chip_core.specs.declared.machine.Machine.{Machine}
+use Rattle.chip_core.specs.declared.refusal.Refusal.{Refusal}
+use Rattle.chip_core.proofs.Answered.{is_ok}
 use Rattle.chip_core.proofs.Choice.{either}
 use Rattle.chip_core.proofs.Refusals.{neither, Ready, ready}
 use Rattle.chip_core.proofs.Iteration.{iterate_last}
@@ -22,6 +23,28 @@ entry_lt : (image : List ℕ) (i : ℕ) → any_above_4095 image ≡ false → g
 entry_lt [] i e = undrawn_lt
 entry_lt (word ∷ words) zero e = let h = ltb-false 4095 word (neither (ltb 4095 word) _ e).0 in omega arith
 entry_lt (word ∷ words) (suc i) e = entry_lt words i (neither (ltb 4095 word) _ e).1
+
+-- the machine that a caller has after a call: the one that it answers, or the one that was handed in
+abbrev pub machine_left : Machine → Result Machine Refusal → Machine
+machine_left machine (Ok after) = after
+machine_left machine (Err refusal) = machine
+
+stands : (machine : Machine) (r : Result Machine Refusal) → refusal_number r ≢ accepted → machine_left machine r ≡ machine
+stands machine (Ok after) n = absurd (n refl)
+stands machine (Err refusal) n = refl
+
+-- A CALL LEAVES ITS CALLER the machine after it, or, refused, the one that was handed in
+pub comes_back : (number : ℕ) (before after : State) (answer : Result Machine Refusal) (cells : List ℕ) → Answers number before after answer cells
+    → machine_left before.machine answer ≡ (leaves number before after).machine
+comes_back number before after answer cells p = go (eqb number accepted) refl
+  where
+    go : (t : Bool) → eqb number accepted ≡ t → machine_left before.machine answer ≡ (leaves number before after).machine
+    go true e =
+        let z = eqb-true number accepted e in
+        rw (z, is_ok answer after.machine (rw z at p.0))
+    go false e =
+        let refused : refusal_number answer ≡ number = ap (λ (a : NumberAndValues Machine). a.number) p.0 in
+        rw e (stands before.machine answer (λ z. true≢false (sym (eq-eqb number 0 (sym refused ∙ z)) ∙ e)))
 
 module _ (image : List ℕ) where
   abbrev Accepted : State → Type 0
@@ -52,8 +75,8 @@ module _ (image : List ℕ) where
       simp (le-ltb 256 (length image) r.short, r.words, eq-eqb (length s.cells) 16 r.fit.sixteen, sr, ir)
 
   -- ONE CLOCK AFTER A RUN IS A RUN OF ONE MORE, refused or not
-  pub one_more : (n : ℕ) (machine : Machine) (cells : List ℕ) (r s : Clocked) (left right : List ℕ)
-      → RunPromise n machine image cells r left → ClockPromise r.machine image left s right → RunPromise (suc n) machine image cells s right
+  pub one_more : (n : ℕ) (machine : Machine) (cells : List ℕ) (r s : Result Machine Refusal) (left right : List ℕ)
+      → RunPromise n machine image cells r left → ClockPromise (machine_left machine r) image left s right → RunPromise (suc n) machine image cells s right
   one_more n machine cells r s left right p q = go (eqb number accepted) refl
     where
       number : ℕ
@@ -62,14 +85,12 @@ module _ (image : List ℕ) where
       reached : State
       reached = iterate (clock (memory_of image)) n (state machine cells)
 
+      m : machine_left machine r ≡ (leaves number (state machine cells) reached).machine
+      m = comes_back number (state machine cells) reached r left p
+
       go : (t : Bool) → eqb number accepted ≡ t → RunPromise (suc n) machine image cells s right
       go true e =
           let z = eqb-true number accepted e in
-          let p' : (r ≡ clocked_as accepted reached.machine) × (left ≡ reached.cells) = rw z at p in
-          let m : r.machine ≡ reached.machine = ap (λ (a : Clocked). a.machine) p'.0 in
           let f = fine reached (accepted_after n (state machine cells) (ready machine image cells z)) in
-          rw (z, iterate_last (clock (memory_of image)) n (state machine cells)) (rw (m, p'.1, f) at q)
-      go false e =
-          let p' : (r ≡ clocked_as number machine) × (left ≡ cells) = rw e at p in
-          let m : r.machine ≡ machine = ap (λ (a : Clocked). a.machine) p'.0 in
-          rw e (rw (m, p'.1, e) at q)
+          rw (z, iterate_last (clock (memory_of image)) n (state machine cells)) (rw (m, p.1, z, f) at q)
+      go false e = rw e (rw (m, p.1, e, e) at q)

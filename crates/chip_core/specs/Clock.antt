@@ -1,9 +1,9 @@
 -- One clock: a row of the clock table, and what it enables is written. A run is any number of them.
 -- Assumes nothing.
-use Rattle.std.specs.Prelude.{ℕ, cond, List, length, ◌==◌, slice_set}
+use Rattle.std.specs.Prelude.{ℕ, cond, List, length, ◌==◌, slice_set, Result}
 use Rattle.chip_core.specs.Control.{enabled, pc_e, acc_e, sr_e, ir_e, dr_e, dmem_we, stage_after, control_row}
 use Rattle.chip_core.specs.Iterate.{iterate}
-use Rattle.chip_core.specs.Machine.{State, state, Memory, memory_of, machine_checks, clocked_as, Answers}
+use Rattle.chip_core.specs.Machine.{State, state, Memory, memory_of, machine_checks, Answers, AnswersInPlace}
 use Rattle.chip_core.specs.Refusal.{first_broken}
 use Rattle.chip_core.specs.Rule.{cell_at, stepped}
 use Rattle.chip_core.specs.Unit.{unit_result, unit_flags}
@@ -12,7 +12,7 @@ use Rattle.chip_core.specs.declared.address.ProgramAddress.{ProgramAddress}
 use Rattle.chip_core.specs.declared.address.DataAddress.{DataAddress}
 use Rattle.chip_core.specs.declared.control.ControlRow.{ControlRow}
 use Rattle.chip_core.specs.declared.machine.Machine.{Machine}
-use Rattle.chip_core.specs.declared.machine.Clocked.{Clocked}
+use Rattle.chip_core.specs.declared.refusal.Refusal.{Refusal}
 
 -- "EXECUTE writes what is enabled, all from values before the edge." What each register and the cells hold after the edge, from the row and the
 -- machine before it. A register is written by its own enable, and a cell by DMem.WE; that the device is then enabled too is the theorem `all_powered`.
@@ -83,18 +83,20 @@ unfoldable pub clock_refusal : Machine → List ℕ → ℕ → ℕ
 clock_refusal machine image count = first_broken (machine_checks machine image count)
 
 -- "A run takes any unsigned 64-bit number of clocks and may start and end at any stage."
-abbrev pub RunPromise : ℕ → Machine → List ℕ → List ℕ → Clocked → List ℕ → Type 0
+abbrev pub RunPromise : ℕ → Machine → List ℕ → List ℕ → Result Machine Refusal → List ℕ → Type 0
 RunPromise clocks machine image cells =
     Answers (clock_refusal machine image (length cells)) (state machine cells)
     (iterate (clock (memory_of image)) clocks (state machine cells))
 
 -- what `clock` promises of its answer and of the cells that it leaves
-abbrev pub ClockPromise : Machine → List ℕ → List ℕ → Clocked → List ℕ → Type 0
+abbrev pub ClockPromise : Machine → List ℕ → List ℕ → Result Machine Refusal → List ℕ → Type 0
 ClockPromise machine image cells =
     Answers (clock_refusal machine image (length cells)) (state machine cells)
     (clock (memory_of image) (state machine cells))
 
--- "The tester keeps one machine for each socket and clocks it where it stands." The same of a machine that is lent: the number that is returned, the
--- machine that is left in its place, and the cells.
-abbrev pub ClockInPlacePromise : Machine → List ℕ → List ℕ → ℕ → Machine → List ℕ → Type 0
-ClockInPlacePromise machine image cells number left = ClockPromise machine image cells (clocked_as number left)
+-- "The tester keeps one machine for each socket and clocks it where it stands." One clock of a machine that is lent: the answer, the machine that is left
+-- in its place, and the cells.
+abbrev pub ClockInPlacePromise : Machine → List ℕ → List ℕ → Result Unit Refusal → Machine → List ℕ → Type 0
+ClockInPlacePromise machine image cells =
+    AnswersInPlace (clock_refusal machine image (length cells)) (state machine cells)
+    (clock (memory_of image) (state machine cells))

@@ -1,12 +1,13 @@
 -- Document 01's "Clock table": a row for each stage and kind, and which row the core goes by.
 -- Assumes nothing.
-use Rattle.std.specs.Prelude.{◌≡◌, ℕ, ◌+◌, ◌-◌, ◌*◌, Bool, cond, List, [], ◌∷◌, ◌==◌, nat_lt}
-use Rattle.chip_core.specs.Refusal.{accepted, word_above_4095, register_out_of_range, check, first_broken}
+use Rattle.std.specs.Prelude.{◌≡◌, ℕ, ◌+◌, ◌-◌, ◌*◌, Bool, List, [], ◌∷◌, nat_lt, Result}
+use Rattle.chip_core.specs.Refusal.{word_above_4095, register_out_of_range, check, first_broken, NumberAndValues, number_and_values, answered}
 use Rattle.chip_core.specs.Rule.{Act, Pass, Go, OnCell, GoIf, OnImmediate, act_of}
 use Rattle.chip_core.specs.Unit.{one_if}
 use Rattle.chip_core.specs.Word.{is_set, instruction_at, flag}
 use Rattle.chip_core.specs.declared.control.ControlRow.{ControlRow}
-use Rattle.chip_core.specs.declared.control.Controlled.{Controlled}
+use Rattle.chip_core.specs.declared.control.Enable.{Enable}
+use Rattle.chip_core.specs.declared.refusal.Refusal.{Refusal}
 use Rattle.chip_core.specs.declared.control.Stage.{Stage}
 use Rattle.chip_core.specs.declared.control.Stage.TheVariants.{Fetch, Decode, Execute}
 
@@ -44,6 +45,15 @@ dr_e = 4
 
 abbrev pub dmem_we : ℕ
 dmem_we = 1
+
+-- by their names in the code
+abbrev pub column_of : Enable → ℕ
+column_of Enable.Pc = pc_e
+column_of Enable.Acc = acc_e
+column_of Enable.Sr = sr_e
+column_of Enable.Ir = ir_e
+column_of Enable.Dr = dr_e
+column_of Enable.CellWrite = dmem_we
 
 abbrev pub enabled : ℕ → ControlRow → Bool
 enabled column r = is_set column r.enables
@@ -92,14 +102,10 @@ control_row word stage sr = row_of stage (act_of (instruction_at word)) sr
 abbrev pub row_refusal : ℕ → ℕ → ℕ
 row_refusal word sr = first_broken (check (nat_lt 4095 word) word_above_4095 ∷ check (nat_lt 15 sr) register_out_of_range ∷ [])
 
--- "A refusal returns its number; .. other result fields are 0".
-abbrev pub controlled_as : ℕ → ControlRow → Controlled
-controlled_as number r = record { refusal = number; row = cond (number == accepted) r (row_with 0 0 0 0) }
-
 -- the answer to a control row asked for
-unfoldable pub controlled : ℕ → Stage → ℕ → Controlled
-controlled word stage sr = controlled_as (row_refusal word sr) (control_row word stage sr)
+unfoldable pub controlled : ℕ → Stage → ℕ → NumberAndValues ControlRow
+controlled word stage sr = answered (row_refusal word sr) (control_row word stage sr)
 
 -- what `row` promises of its answer
-abbrev pub RowPromise : ℕ → Stage → ℕ → Controlled → Type 0
-RowPromise word stage sr answer = answer ≡ controlled word stage sr
+abbrev pub RowPromise : ℕ → Stage → ℕ → Result ControlRow Refusal → Type 0
+RowPromise word stage sr answer = number_and_values answer ≡ controlled word stage sr

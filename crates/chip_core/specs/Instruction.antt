@@ -1,6 +1,6 @@
 -- One instruction, by the rules of the instructions and not by clocks.
 -- Assumes nothing.
-use Rattle.std.specs.Prelude.{◌≡◌, ℕ, Bool, true, false, not, List, [], ◌∷◌, ◌++◌, length}
+use Rattle.std.specs.Prelude.{◌≡◌, ℕ, Bool, true, false, not, List, [], ◌∷◌, ◌++◌, length, Result}
 use Rattle.chip_core.specs.Machine.{State, state, Memory, memory_of, machine_checks, Answers}
 use Rattle.chip_core.specs.Refusal.{fetch_not_next, check, first_broken}
 use Rattle.chip_core.specs.Rule.{Act, Pass, Go, OnCell, GoIf, OnImmediate, act_of, Visible, cell_at, effect, next}
@@ -8,7 +8,7 @@ use Rattle.chip_core.specs.Word.{instruction_at}
 use Rattle.chip_core.specs.declared.control.Stage.{Stage}
 use Rattle.chip_core.specs.declared.control.Stage.TheVariants.{Fetch, Decode, Execute}
 use Rattle.chip_core.specs.declared.machine.Machine.{Machine}
-use Rattle.chip_core.specs.declared.machine.Clocked.{Clocked}
+use Rattle.chip_core.specs.declared.refusal.Refusal.{Refusal}
 
 -- what a program sees of a machine
 abbrev pub visible : State → Visible
@@ -58,7 +58,7 @@ instruction_refusal machine image count =
     first_broken (machine_checks machine image count ++ check (not (is_fetch machine.stage)) fetch_not_next ∷ [])
 
 -- what `instruction` promises of its answer and of the cells that it leaves
-abbrev pub InstructionPromise : Machine → List ℕ → List ℕ → Clocked → List ℕ → Type 0
+abbrev pub InstructionPromise : Machine → List ℕ → List ℕ → Result Machine Refusal → List ℕ → Type 0
 InstructionPromise machine image cells =
     Answers (instruction_refusal machine image (length cells)) (state machine cells)
     (instruction (memory_of image) (state machine cells))

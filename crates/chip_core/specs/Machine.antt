@@ -1,12 +1,12 @@
 -- A machine with its program memory and its cells, what every call over it refuses, and what a call leaves.
 -- Assumes nothing.
-use Rattle.std.specs.Prelude.{◌≡◌, ℕ, Bool, false, cond, not, ◌||◌, List, [], ◌∷◌, ◌++◌, length, ◌==◌, nat_lt, slice_index_or}
-use Rattle.chip_core.specs.Refusal.{accepted, word_above_4095, image_above_256_words, not_sixteen_cells, register_out_of_range, Check, check}
+use Rattle.std.specs.Prelude.{◌≡◌, ℕ, Bool, false, cond, not, ◌||◌, List, [], ◌∷◌, ◌++◌, length, ◌==◌, nat_lt, slice_index_or, Result}
+use Rattle.chip_core.specs.Refusal.{accepted, word_above_4095, image_above_256_words, not_sixteen_cells, register_out_of_range, Check, check, number_and_values, refusal_number, answered}
 use Rattle.chip_core.specs.Word.{program_address}
 use Rattle.chip_core.specs.declared.address.ProgramAddress.{ProgramAddress}
 use Rattle.chip_core.specs.declared.control.Stage.TheVariants.{Fetch}
 use Rattle.chip_core.specs.declared.machine.Machine.{Machine}
-use Rattle.chip_core.specs.declared.machine.Clocked.{Clocked}
+use Rattle.chip_core.specs.declared.refusal.Refusal.{Refusal}
 
 -- a machine and the data cells that it works on
 pub record State : Type 0 where
@@ -58,11 +58,13 @@ machine_checks machine image count = image_checks image ++ state_checks machine 
 abbrev pub leaves : ℕ → State → State → State
 leaves number before after = cond (number == accepted) after before
 
--- the answer with a number and a machine
-abbrev pub clocked_as : ℕ → Machine → Clocked
-clocked_as number machine = record { refusal = number; machine = machine }
-
--- What a call over a machine and its cells promises: its answer has the number and the machine that is left, and the cells are those that are left.
-abbrev pub Answers : ℕ → State → State → Clocked → List ℕ → Type 0
+-- What a call over a machine by value and its cells promises: its answer has the number, and where it is accepted the machine after the call; the cells are
+-- those that are left. A machine that is refused is a copy: the caller's own record is the same.
+abbrev pub Answers : ℕ → State → State → Result Machine Refusal → List ℕ → Type 0
 Answers number before after answer cells =
-    (answer ≡ clocked_as number (leaves number before after).machine) × (cells ≡ (leaves number before after).cells)
+    (number_and_values answer ≡ answered number after.machine) × (cells ≡ (leaves number before after).cells)
+
+-- The same of a machine that is lent: the machine that is left in its place is the one after the call, or the one that was handed in.
+abbrev pub AnswersInPlace : ℕ → State → State → Result Unit Refusal → Machine → List ℕ → Type 0
+AnswersInPlace number before after answer machine cells =
+    (refusal_number answer ≡ number) × (machine ≡ (leaves number before after).machine) × (cells ≡ (leaves number before after).cells)

@@ -1,6 +1,8 @@
 -- Document 01's "Refusal numbers" by name, and which number a call gives where several rules are broken.
 -- Assumes nothing.
-use Rattle.std.specs.Prelude.{ℕ, Bool, cond, List, [], ◌∷◌}
+use Rattle.std.specs.Prelude.{ℕ, Bool, cond, List, [], ◌∷◌, ◌==◌, Result, Ok, Err}
+use Rattle.chip_core.specs.declared.refusal.Refusal.{Refusal}
+use Rattle.chip_core.specs.declared.refusal.Refusal.TheVariants.{DeckTooShort, BytesAfterLines, LinesAbove256, LabelNotBelowLines, OperationAbove27, SecondByteNotAllowed, OperandNotAllowed, WordsAbove256, OutputTooShort, WordAbove4095, ImageAbove256Words, NotSixteenCells, RegisterOutOfRange, FieldOutOfRange, FetchNotNext}
 
 -- no rule is broken: the call is accepted
 abbrev pub accepted : ℕ
@@ -78,3 +80,40 @@ check broken number = record { broken = broken; number = number }
 abbrev pub first_broken : List Check → ℕ
 first_broken [] = accepted
 first_broken (c ∷ cs) = cond c.broken c.number (first_broken cs)
+
+-- "Where an answer is an enum, a definition gives this paper's number and values for each of its cases, and the promises use that
+-- definition". The number of a refusal,
+abbrev pub number_of : Refusal → ℕ
+number_of DeckTooShort = deck_too_short
+number_of BytesAfterLines = bytes_after_lines
+number_of LinesAbove256 = lines_above_256
+number_of LabelNotBelowLines = label_not_below_lines
+number_of OperationAbove27 = operation_above_27
+number_of SecondByteNotAllowed = second_byte_not_allowed
+number_of OperandNotAllowed = operand_not_allowed
+number_of WordsAbove256 = words_above_256
+number_of OutputTooShort = output_too_short
+number_of WordAbove4095 = word_above_4095
+number_of ImageAbove256Words = image_above_256_words
+number_of NotSixteenCells = not_sixteen_cells
+number_of RegisterOutOfRange = register_out_of_range
+number_of FieldOutOfRange = field_out_of_range
+number_of FetchNotNext = fetch_not_next
+
+-- and the number and values of an answer. The number is 0 where nothing is refused. "A refusal returns its number; .. other result fields are 0":
+-- a refused answer has no other result field that could be 0, and so no value.
+pub record NumberAndValues (A : Type 0) : Type 0 where
+  pub number : ℕ
+  pub values : List A
+
+abbrev pub number_and_values : {A : Type 0} → Result A Refusal → NumberAndValues A
+number_and_values (Ok value) = record { number = accepted; values = value ∷ [] }
+number_and_values (Err refusal) = record { number = number_of refusal; values = [] }
+
+-- the number of an answer, where its value is said apart or there is none
+abbrev pub refusal_number : {A : Type 0} → Result A Refusal → ℕ
+refusal_number answer = (number_and_values answer).number
+
+-- an answer with this number, and with this value if it is accepted
+abbrev pub answered : {A : Type 0} → ℕ → A → NumberAndValues A
+answered number value = record { number = number; values = cond (number == accepted) (value ∷ []) [] }

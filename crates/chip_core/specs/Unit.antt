@@ -1,8 +1,9 @@
 -- Document 01's "Arithmetic unit": a table of 16 rows, and the flags that a row sets merged into those before.
 -- Assumes nothing.
-use Rattle.std.specs.Prelude.{◌≡◌, ℕ, ◌+◌, ◌-◌, ◌*◌, ◌/◌, ◌%◌, ◌^◌, Bool, true, false, cond, ◌||◌, List, [], ◌∷◌, ℤ, pos, ◌+ℤ◌, ◌-ℤ◌, neg_ℤ, ◌==◌, bit_and, bit_or, bit_xor, int_lt, nat_lt, slice_index_or}
-use Rattle.chip_core.specs.Refusal.{accepted, register_out_of_range, field_out_of_range, check, first_broken}
+use Rattle.std.specs.Prelude.{◌≡◌, ℕ, ◌+◌, ◌-◌, ◌*◌, ◌/◌, ◌%◌, ◌^◌, Bool, true, false, cond, ◌||◌, List, [], ◌∷◌, ℤ, pos, ◌+ℤ◌, ◌-ℤ◌, neg_ℤ, ◌==◌, bit_and, bit_or, bit_xor, int_lt, nat_lt, slice_index_or, Result}
+use Rattle.chip_core.specs.Refusal.{register_out_of_range, field_out_of_range, check, first_broken, NumberAndValues, number_and_values, answered}
 use Rattle.chip_core.specs.Word.{is_set, flag_o, flag_s, flag_c, flag_z}
+use Rattle.chip_core.specs.declared.refusal.Refusal.{Refusal}
 use Rattle.chip_core.specs.declared.unit.UnitRow.{UnitRow}
 use Rattle.chip_core.specs.declared.unit.Computed.{Computed}
 
@@ -115,15 +116,13 @@ unit_flags mode a b sr = merged (row_at mode a b).sets (row_flags (row_at mode a
 abbrev pub unit_refusal : ℕ → ℕ → ℕ
 unit_refusal mode sr = first_broken (check (nat_lt 15 mode) field_out_of_range ∷ check (nat_lt 15 sr) register_out_of_range ∷ [])
 
--- "A refusal returns its number; .. other result fields are 0".
-abbrev pub computed_as : ℕ → ℕ → ℕ → Computed
-computed_as number result flags =
-    record { refusal = number; result = cond (number == accepted) result 0; flags = cond (number == accepted) flags 0 }
+abbrev pub computed_as : ℕ → ℕ → Computed
+computed_as result flags = record { result = result; flags = flags }
 
 -- the unit's answer
-unfoldable pub computed : ℕ → ℕ → ℕ → ℕ → Computed
-computed mode a b sr = computed_as (unit_refusal mode sr) (unit_result mode a b) (unit_flags mode a b sr)
+unfoldable pub computed : ℕ → ℕ → ℕ → ℕ → NumberAndValues Computed
+computed mode a b sr = answered (unit_refusal mode sr) (computed_as (unit_result mode a b) (unit_flags mode a b sr))
 
 -- what `unit` promises of its answer
-abbrev pub UnitPromise : ℕ → ℕ → ℕ → ℕ → Computed → Type 0
-UnitPromise mode a b sr answer = answer ≡ computed mode a b sr
+abbrev pub UnitPromise : ℕ → ℕ → ℕ → ℕ → Result Computed Refusal → Type 0
+UnitPromise mode a b sr answer = number_and_values answer ≡ computed mode a b sr

@@ -1,13 +1,12 @@
 -- Document 01's "Words": a word is 0 to 4095, and each field is cut from it by position.
 -- Assumes nothing.
-use Rattle.std.specs.Prelude.{◌≡◌, ℕ, ◌+◌, ◌-◌, ◌*◌, ◌/◌, ◌%◌, ◌^◌, Bool, cond, not, ◌&&◌, List, [], ◌∷◌, ◌==◌, nat_lt}
-use Rattle.chip_core.specs.Refusal.{accepted, word_above_4095, field_out_of_range, check, first_broken}
+use Rattle.std.specs.Prelude.{◌≡◌, ℕ, ◌+◌, ◌-◌, ◌*◌, ◌/◌, ◌%◌, ◌^◌, Bool, cond, not, ◌&&◌, [], ◌∷◌, ◌==◌, nat_lt, Result}
+use Rattle.chip_core.specs.Refusal.{word_above_4095, field_out_of_range, check, first_broken, NumberAndValues, number_and_values, answered}
 use Rattle.chip_core.specs.declared.address.ProgramAddress.{ProgramAddress}
 use Rattle.chip_core.specs.declared.address.DataAddress.{DataAddress}
 use Rattle.chip_core.specs.declared.word.Instruction.{Instruction}
 use Rattle.chip_core.specs.declared.word.Instruction.TheVariants.{S, Goto, M, JumpIf, I}
-use Rattle.chip_core.specs.declared.word.Decoded.{Decoded}
-use Rattle.chip_core.specs.declared.word.Encoded.{Encoded}
+use Rattle.chip_core.specs.declared.refusal.Refusal.{Refusal}
 
 -- "A program address counts up to 256 entries, a data address up to 16 cells, and one is never taken for the other."
 abbrev pub program_address : ℕ → ProgramAddress
@@ -79,42 +78,26 @@ in_range (M d mode cell) = fits 1 d && fits 4 mode && fits 4 cell.0
 in_range (JumpIf f target) = fits 2 f && fits 8 target.0
 in_range (I mode immediate) = fits 3 mode && fits 8 immediate
 
--- "Where an answer is an enum, a definition gives this paper's number and values for each of its cases, and the promises use that
--- definition". The number is 0 where nothing is refused. The values of an accepted word are its instruction, since each kind has document
--- 01's fields in its table's order; a refused word has no result field that could be 0, and so none.
-pub record NumberAndValues (A : Type 0) : Type 0 where
-  pub number : ℕ
-  pub values : List A
-
-abbrev pub number_and_values : Decoded → NumberAndValues Instruction
-number_and_values (Decoded.Accepted instruction) = record { number = accepted; values = instruction ∷ [] }
-number_and_values (Decoded.Refused number) = record { number = number; values = [] }
-
 -- "Decoder 10"
 abbrev pub decode_refusal : ℕ → ℕ
 decode_refusal word = first_broken (check (nat_lt 4095 word) word_above_4095 ∷ [])
 
 -- the decoder's answer
 unfoldable pub decoded : ℕ → NumberAndValues Instruction
-decoded word =
-    record { number = decode_refusal word; values = cond (decode_refusal word == accepted) (instruction_at word ∷ []) [] }
+decoded word = answered (decode_refusal word) (instruction_at word)
 
 -- what `decode` promises of its answer
-abbrev pub DecodePromise : ℕ → Decoded → Type 0
+abbrev pub DecodePromise : ℕ → Result Instruction Refusal → Type 0
 DecodePromise word answer = number_and_values answer ≡ decoded word
 
 -- "encoder 14"
 abbrev pub encode_refusal : Instruction → ℕ
 encode_refusal instruction = first_broken (check (not (in_range instruction)) field_out_of_range ∷ [])
 
--- "A refusal returns its number; .. other result fields are 0".
-abbrev pub encoded_as : ℕ → ℕ → Encoded
-encoded_as number word = record { refusal = number; word = cond (number == accepted) word 0 }
-
 -- the encoder's answer
-unfoldable pub encoded : Instruction → Encoded
-encoded instruction = encoded_as (encode_refusal instruction) (word_of instruction)
+unfoldable pub encoded : Instruction → NumberAndValues ℕ
+encoded instruction = answered (encode_refusal instruction) (word_of instruction)
 
 -- what `encode` promises of its answer
-abbrev pub EncodePromise : Instruction → Encoded → Type 0
-EncodePromise instruction answer = answer ≡ encoded instruction
+abbrev pub EncodePromise : Instruction → Result ℕ Refusal → Type 0
+EncodePromise instruction answer = number_and_values answer ≡ encoded instruction

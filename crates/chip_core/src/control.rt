@@ -1,20 +1,30 @@
 // The clock table: what each stage of each kind of word enables, and what the two selects pick.
 ghost use Rattle.std.specs.Prelude.{◌≡◌, ◌*◌, ◌/◌, ◌%◌, ◌^◌, ◌<◌, if◌then◌else◌};
-ghost use Rattle.chip_core.specs.Control.{stage_number, row_with, control_row, controlled_as, RowPromise};
+ghost use Rattle.chip_core.specs.Control.{stage_number, column_of, row_with, control_row, RowPromise};
 
-use super::refusal::{ACCEPTED, REGISTER_OUT_OF_RANGE, WORD_ABOVE_4095};
+use super::refusal::Refusal;
 use super::word::{Instruction, bits, instruction_at, is_set};
 
 // "The only stages are FETCH, DECODE, EXECUTE, in that order, then FETCH again."
-#[derive(Clone, Copy)]
+#[derive(Clone, Copy, Debug, PartialEq, Eq)]
 pub enum Stage {
     Fetch,
     Decode,
     Execute,
 }
 
-// A row: the nine enables as document 01 writes them, PC.E the first digit and ALU.E the last, the unit's mode and the two selects.
-#[derive(Clone, Copy)]
+impl Stage {
+    // Where the constant table has the rows of a stage.
+    fn number(self) -> usize
+        ensures { (result ≡ stage_number self) × (result < 3) }
+    {
+        self as usize
+    }
+}
+
+// A row: the nine enables as document 01 writes them, PC.E the first digit and ALU.E the last, the unit's mode and the two selects. All are the table's own
+// numbers, since `RowPromise` says them so (`row_with`), and a reader compares them digit by digit.
+#[derive(Clone, Copy, Debug, PartialEq, Eq)]
 pub struct ControlRow {
     pub enables: u16,
     pub mode: u8,
@@ -22,25 +32,24 @@ pub struct ControlRow {
     pub mux2: u8,
 }
 
-// The row, or the number of the refusal and a row of 0.
-#[derive(Clone, Copy)]
-pub struct Controlled {
-    pub refusal: u8,
-    pub row: ControlRow,
+// The enables that a clock goes by, each with its bit: PC.E, Acc.E, SR.E, IR.E, DR.E and DMem.WE.
+#[derive(Clone, Copy, Debug, PartialEq, Eq)]
+pub(crate) enum Enable {
+    Pc = 8,
+    Acc = 7,
+    Sr = 6,
+    Ir = 5,
+    Dr = 4,
+    CellWrite = 1,
 }
 
-// The enables that a clock goes by, by their bits.
-pub(crate) const PC_E: u16 = 8;
-
-pub(crate) const ACC_E: u16 = 7;
-
-pub(crate) const SR_E: u16 = 6;
-
-pub(crate) const IR_E: u16 = 5;
-
-pub(crate) const DR_E: u16 = 4;
-
-pub(crate) const DMEM_WE: u16 = 1;
+impl Enable {
+    pub(crate) fn column(self) -> u16
+        ensures { (result ≡ column_of self) × (result < 16) }
+    {
+        self as u16
+    }
+}
 
 // The rows of document 01's clock table: nine enables, MUX1, MUX2.
 const FETCH: u16 = 0b000101000_0_0;
@@ -115,16 +124,6 @@ const CONTROL: [u16; 48] = [
     EXECUTE_I,
 ];
 
-fn stage_number(stage: Stage) -> usize
-    ensures { (result ≡ stage_number stage) × (result < 3) }
-{
-    match stage {
-        Stage::Fetch => 0,
-        Stage::Decode => 1,
-        Stage::Execute => 2,
-    }
-}
-
 // Enables and selects go by the stage and bits 11..8 alone, but for a jump that is taken: they are those of the word that has bits 11..8 and
 // zeros below, with no flag set.
 fn entry_at(stage: Stage, top: u8) -> u16
@@ -133,24 +132,17 @@ fn entry_at(stage: Stage, top: u8) -> u16
         × (result / 2 % 2 ≡ (control_row (top * 2 ^ 8) stage 0).mux1)
         × (result % 2 ≡ (control_row (top * 2 ^ 8) stage 0).mux2) }
 {
-    CONTROL[stage_number(stage) * 16 + top as usize]
+    CONTROL[stage.number() * 16 + top as usize]
 }
 
-// MUX1 of an entry, but 0 for a jump that is taken.
-fn unless_taken(taken: bool, mux1: u8) -> u8
-    ensures { result ≡ (if taken then 0 else mux1) }
-{
-    if taken { 0 } else { mux1 }
-}
-
-// The row of an entry, with what it leaves open: the mode, and whether a jump is taken.
+// The row of an entry, with what it leaves open: the mode, and whether a jump is taken, for which MUX1 is 0.
 fn row_with(entry: u16, mode: u8, taken: bool) -> ControlRow
     ensures { result ≡ row_with (entry / 4) mode (if taken then 0 else entry / 2 % 2) (entry % 2) }
 {
     ControlRow {
         enables: entry / 4,
         mode,
-        mux1: unless_taken(taken, (entry / 2 % 2) as u8),
+        mux1: if taken { 0 } else { (entry / 2 % 2) as u8 },
         mux2: (entry % 2) as u8,
     }
 }
@@ -165,43 +157,27 @@ pub(crate) fn control_row(word: u16, stage: Stage, sr: u8) -> ControlRow
         Stage::Fetch => row_with(entry, 0, false),
         Stage::Decode => row_with(entry, 0, false),
         Stage::Execute => match instruction {
-            Instruction::S { k: _ } => row_with(entry, 0, false),
-            Instruction::Goto { target: _ } => row_with(entry, 0, false),
-            Instruction::M {
-                d: _,
-                mode,
-                cell: _,
-            } => row_with(entry, mode, false),
-            Instruction::JumpIf { flag, target: _ } => {
+            Instruction::S { .. } => row_with(entry, 0, false),
+            Instruction::Goto { .. } => row_with(entry, 0, false),
+            Instruction::M { mode, .. } => row_with(entry, mode, false),
+            Instruction::JumpIf { flag, .. } => {
                 row_with(entry, 0, is_set(flag as u16, sr as u16))
             }
-            Instruction::I { mode, immediate: _ } => row_with(entry, mode, false),
+            Instruction::I { mode, .. } => row_with(entry, mode, false),
         },
-    }
-}
-
-fn refused(refusal: u8) -> Controlled
-    ensures { result ≡ controlled_as refusal (row_with 0 0 0 0) }
-{
-    Controlled {
-        refusal,
-        row: row_with(0, 0, false),
     }
 }
 
 // The control row of a word at a stage, with the flags in SR. Refuses 10: word above 4095; then 13: SR above 15.
 #[tactic(auto, unfolding(crate::specs::Control::controlled))]
-pub fn row(word: u16, stage: Stage, sr: u8) -> Controlled
+pub fn row(word: u16, stage: Stage, sr: u8) -> Result<ControlRow, Refusal>
     ensures { RowPromise word stage sr result }
 {
     if 4095 < word {
-        return refused(WORD_ABOVE_4095);
+        return Err(Refusal::WordAbove4095);
     }
     if 15 < sr {
-        return refused(REGISTER_OUT_OF_RANGE);
+        return Err(Refusal::RegisterOutOfRange);
     }
-    Controlled {
-        refusal: ACCEPTED,
-        row: control_row(word, stage, sr),
-    }
+    Ok(control_row(word, stage, sr))
 }

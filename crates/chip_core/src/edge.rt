@@ -1,17 +1,17 @@
-// One clock edge of a machine that is not refused: the row of the clock table says what is written, all from values before the edge.
-ghost use Rattle.std.specs.Prelude.{◌≡◌, ◌<◌, length, if◌then◌else◌};
+// One clock edge of a machine that is not refused: the row of the clock table says what is written, all from values before the edge. Where a function
+// takes the row and the machine before the edge, it does so in the order of its definition: a struct of both would only be taken apart again.
+ghost use Rattle.std.specs.Prelude.{◌≡◌, ◌<◌, if◌then◌else◌};
 ghost use Rattle.chip_core.specs.Clock.{pc_after, ir_after, operand, result_out, cells_after, cell_of, clock};
-ghost use Rattle.chip_core.specs.Control.{enabled, stage_after};
+ghost use Rattle.chip_core.specs.Control.{column_of, enabled, stage_after};
 ghost use Rattle.chip_core.specs.Machine.{state, memory_of};
 ghost use Rattle.chip_core.specs.Rule.{cell_at, stepped};
 
 use super::address::{DataAddress, ProgramAddress};
-use super::control::{ACC_E, ControlRow, DMEM_WE, DR_E, IR_E, PC_E, SR_E, Stage, control_row};
+use super::control::{ControlRow, Enable, Stage, control_row};
 use super::image::word_at;
 use super::machine::Machine;
 use super::unit::unit;
 use super::word::{bits, is_set};
-use std::num::wrapping_add_u8;
 
 // "in that order, then FETCH again"
 fn stage_after(stage: Stage) -> Stage
@@ -24,32 +24,31 @@ fn stage_after(stage: Stage) -> Stage
     }
 }
 
-fn enabled(column: u16, row: ControlRow) -> bool
-    requires { column < 16 }
-    ensures { result ≡ enabled column row }
+fn enabled(enable: Enable, row: ControlRow) -> bool
+    ensures { result ≡ enabled (column_of enable) row }
 {
-    is_set(column, row.enables)
+    is_set(enable.column(), row.enables)
 }
 
-// What DR, Acc or SR holds after the edge.
-fn written(column: u16, row: ControlRow, new: u8, old: u8) -> u8
-    requires { column < 16 }
-    ensures { result ≡ (if enabled column row then new else old) }
+// What DR, Acc or SR holds after the edge: one rule for the three registers that take a new value or keep theirs.
+fn written(enable: Enable, row: ControlRow, new: u8, old: u8) -> u8
+    ensures { result ≡ (if enabled (column_of enable) row then new else old) }
 {
-    if enabled(column, row) { new } else { old }
+    if enabled(enable, row) { new } else { old }
 }
 
 // The PC adder: "PC steps by one, and 255 steps to 0".
 fn stepped(pc: ProgramAddress) -> ProgramAddress
     ensures { result ≡ stepped pc }
 {
-    ProgramAddress(wrapping_add_u8(pc.0, 1))
+    ProgramAddress(pc.0.wrapping_add(1))
 }
 
+#[tactic(auto, unfolding(crate::specs::Clock::pc_after))]
 fn pc_after(row: ControlRow, machine: Machine) -> ProgramAddress
     ensures { result ≡ pc_after row machine }
 {
-    if enabled(PC_E, row) {
+    if enabled(Enable::Pc, row) {
         if row.mux1 == 0 {
             return ProgramAddress(bits(7, 0, machine.ir));
         }
@@ -58,24 +57,25 @@ fn pc_after(row: ControlRow, machine: Machine) -> ProgramAddress
     machine.pc
 }
 
+#[tactic(auto, unfolding(crate::specs::Clock::ir_after))]
 fn ir_after(row: ControlRow, machine: Machine, image: &[u16]) -> u16
     ensures { result ≡ ir_after (memory_of image.now) row machine }
 {
-    if enabled(IR_E, row) {
+    if enabled(Enable::Ir, row) {
         return word_at(image, machine.pc);
     }
     machine.ir
 }
 
 // The cell that a word in IR names.
+#[tactic(auto, using(crate::proofs::Field::bits_lt))]
 fn cell_of(ir: u16) -> DataAddress
     ensures { (result ≡ cell_of ir) × (result.0 < 16) }
 {
     DataAddress(bits(3, 0, ir))
 }
 
-fn read_cell(ir: u16, cells: &[u8]) -> u8
-    requires { length cells.now ≡ 16 }
+fn read_cell(ir: u16, cells: &[u8; 16]) -> u8
     ensures { result ≡ cell_at (cell_of ir) cells.now }
 {
     let cell = cell_of(ir);
@@ -83,39 +83,40 @@ fn read_cell(ir: u16, cells: &[u8]) -> u8
 }
 
 // The unit's operand 2. EXECUTE of M uses DR, whatever the cell holds by then.
+#[tactic(auto, unfolding(crate::specs::Clock::operand))]
 fn operand(row: ControlRow, ir: u16, dr: u8) -> u8
     ensures { result ≡ operand row ir dr }
 {
     if row.mux2 == 0 { bits(7, 0, ir) } else { dr }
 }
 
-fn write_cell(row: ControlRow, machine: Machine, res: u8, cells: &mut [u8])
-    requires { (length cells.old ≡ 16) × (res ≡ result_out row machine) }
+#[tactic(auto, unfolding(crate::specs::Clock::cells_after))]
+fn write_cell(row: ControlRow, machine: Machine, res: u8, cells: &mut [u8; 16])
+    requires { res ≡ result_out row machine }
     ensures { cells.new ≡ cells_after row machine cells.old }
 {
     let cell = cell_of(machine.ir);
-    if enabled(DMEM_WE, row) {
+    if enabled(Enable::CellWrite, row) {
         cells[cell.0 as usize] = res;
     }
 }
 
 // One clock of a machine and its cells.
-pub(crate) fn one_clock(machine: Machine, image: &[u16], cells: &mut [u8]) -> Machine
-    requires { (machine.sr < 16) × (length cells.old ≡ 16) }
+pub(crate) fn one_clock(machine: Machine, image: &[u16], cells: &mut [u8; 16]) -> Machine
+    requires { machine.sr < 16 }
     ensures { state result cells.new ≡ clock (memory_of image.now) (state machine cells.old) }
 {
-    let stage = machine.stage;
-    let row = control_row(machine.ir, stage, machine.sr);
+    let row = control_row(machine.ir, machine.stage, machine.sr);
     let cell = read_cell(machine.ir, &*cells);
     let b = operand(row, machine.ir, machine.dr);
-    let out = unit(row.mode, machine.acc, b, machine.sr);
+    let out = unit(row.mode, machine.acc, b, machine.sr).unwrap();
     let after = Machine {
         pc: pc_after(row, machine),
         ir: ir_after(row, machine, image),
-        dr: written(DR_E, row, cell, machine.dr),
-        acc: written(ACC_E, row, out.result, machine.acc),
-        sr: written(SR_E, row, out.flags, machine.sr),
-        stage: stage_after(stage),
+        dr: written(Enable::Dr, row, cell, machine.dr),
+        acc: written(Enable::Acc, row, out.result, machine.acc),
+        sr: written(Enable::Sr, row, out.flags, machine.sr),
+        stage: stage_after(machine.stage),
     };
     write_cell(row, machine, out.result, cells);
     after

@@ -1,49 +1,58 @@
-// Document 01's refusal numbers by name: this is their one place in the code, as specs/Refusal.antt is among the definitions.
+// Document 01's refusals, each with its number: this is their one place in the code, as specs/Refusal.antt is among the definitions.
+ghost use Rattle.std.specs.Prelude.{◌≡◌};
+ghost use Rattle.chip_core.specs.Refusal.{number_of};
 
-// no rule is broken
-pub const ACCEPTED: u8 = 0;
+use std::error::Error;
+use std::fmt;
 
-// "deck shorter than its counts"
-pub const DECK_TOO_SHORT: u8 = 1;
+// The rule that is the first one broken.
+#[derive(Clone, Copy, Debug, PartialEq, Eq)]
+pub enum Refusal {
+    // "deck shorter than its counts"
+    DeckTooShort = 1,
+    // "bytes after the lines"
+    BytesAfterLines = 2,
+    // "L above 256"
+    LinesAbove256 = 3,
+    // "a label's line not below L"
+    LabelNotBelowLines = 4,
+    // "operation above 27"
+    OperationAbove27 = 5,
+    // "second byte not allowed"
+    SecondByteNotAllowed = 6,
+    // "operand not allowed: cell above 15, label not below K, NOP operand not 0"
+    OperandNotAllowed = 7,
+    // "W above 256"
+    WordsAbove256 = 8,
+    // "output shorter than W"
+    OutputTooShort = 9,
+    // "word above 4095"
+    WordAbove4095 = 10,
+    // "image above 256 words"
+    ImageAbove256Words = 11,
+    // "not exactly 16 cells"
+    NotSixteenCells = 12,
+    // "SR above 15 or IR above 4095"
+    RegisterOutOfRange = 13,
+    // "an instruction field or mode outside its range"
+    FieldOutOfRange = 14,
+    // "one instruction asked for when FETCH is not next"
+    FetchNotNext = 33,
+}
 
-// "bytes after the lines"
-pub const BYTES_AFTER_LINES: u8 = 2;
+impl Refusal {
+    // The number in document 01's table.
+    pub fn number(self) -> u8
+        ensures { result ≡ number_of self }
+    {
+        self as u8
+    }
+}
 
-// "L above 256"
-pub const LINES_ABOVE_256: u8 = 3;
+impl fmt::Display for Refusal {
+    fn fmt<W: fmt::Write>(&self, f: &mut fmt::Formatter<W>) -> fmt::Result {
+        write!(f, "refused {}", self.number())
+    }
+}
 
-// "a label's line not below L"
-pub const LABEL_NOT_BELOW_LINES: u8 = 4;
-
-// "operation above 27"
-pub const OPERATION_ABOVE_27: u8 = 5;
-
-// "second byte not allowed"
-pub const SECOND_BYTE_NOT_ALLOWED: u8 = 6;
-
-// "operand not allowed: cell above 15, label not below K, NOP operand not 0"
-pub const OPERAND_NOT_ALLOWED: u8 = 7;
-
-// "W above 256"
-pub const WORDS_ABOVE_256: u8 = 8;
-
-// "output shorter than W"
-pub const OUTPUT_TOO_SHORT: u8 = 9;
-
-// "word above 4095"
-pub const WORD_ABOVE_4095: u8 = 10;
-
-// "image above 256 words"
-pub const IMAGE_ABOVE_256_WORDS: u8 = 11;
-
-// "not exactly 16 cells"
-pub const NOT_SIXTEEN_CELLS: u8 = 12;
-
-// "SR above 15 or IR above 4095"
-pub const REGISTER_OUT_OF_RANGE: u8 = 13;
-
-// "an instruction field or mode outside its range"
-pub const FIELD_OUT_OF_RANGE: u8 = 14;
-
-// "one instruction asked for when FETCH is not next"
-pub const FETCH_NOT_NEXT: u8 = 33;
+impl Error for Refusal {}

@@ -1,13 +1,13 @@
 // The arithmetic unit: a row of document 01's table for each mode, and the flags that the row sets merged into SR once.
 ghost use Rattle.std.specs.Prelude.{◌≡◌, ◌+◌, ◌-◌, ◌%◌, ◌<◌, ◌+ℤ◌, ◌-ℤ◌, nat_lt};
-ghost use Rattle.chip_core.specs.Unit.{signed, outside, rotated_left, filled_right, one_if, packed, if_shifted, row, row_at, merged, computed_as, UnitPromise};
+ghost use Rattle.chip_core.specs.Unit.{signed, outside, rotated_left, filled_right, one_if, packed, if_shifted, row, row_at, merged, UnitPromise};
 
-use super::refusal::{ACCEPTED, FIELD_OUT_OF_RANGE, REGISTER_OUT_OF_RANGE};
+use super::refusal::Refusal;
 use super::word::is_set;
-use std::num::{wrapping_add_u8, wrapping_sub_u8};
 
-// A row of the table: the result, the mask of the flags that it sets, and C and O. Z and S go by the result.
-#[derive(Clone, Copy)]
+// A row of the table: the result, the mask of the flags that it sets, and C and O. Z and S go by the result. The mask is a number with its bits as in SR,
+// and not four tests, since SR is one (`merged` takes both).
+#[derive(Clone, Copy, Debug, PartialEq, Eq)]
 struct UnitRow {
     result: u8,
     sets: u8,
@@ -15,10 +15,9 @@ struct UnitRow {
     overflow: bool,
 }
 
-// Result and flags, or the number of the refusal and 0 for both.
-#[derive(Clone, Copy)]
+// What the unit gives out.
+#[derive(Clone, Copy, Debug, PartialEq, Eq)]
 pub struct Computed {
-    pub refusal: u8,
     pub result: u8,
     pub flags: u8,
 }
@@ -40,14 +39,14 @@ const ZCSO: u8 = 0b1111;
 fn carries(a: u8, b: u8) -> bool
     ensures { result ≡ nat_lt 255 (a + b) }
 {
-    255 < (a as u16) + (b as u16)
+    a.checked_add(b).is_none()
 }
 
 // O of a sum: the operands have one sign, and their sum modulo 256 has the other.
 fn sum_out(a: u8, b: u8) -> bool
     ensures { result ≡ outside (signed a +ℤ signed b) }
 {
-    let sign = is_set(7, wrapping_add_u8(a, b) as u16);
+    let sign = is_set(7, a.wrapping_add(b) as u16);
     (is_set(7, a as u16) ^ sign) & (is_set(7, b as u16) ^ sign)
 }
 
@@ -55,7 +54,7 @@ fn sum_out(a: u8, b: u8) -> bool
 fn difference_out(a: u8, b: u8) -> bool
     ensures { result ≡ outside (signed a -ℤ signed b) }
 {
-    sum_out(wrapping_sub_u8(a, b), b)
+    sum_out(a.wrapping_sub(b), b)
 }
 
 // "n = a mod 8": a shift count is the low three bits of Acc.
@@ -66,6 +65,7 @@ fn count(a: u8) -> u16
 }
 
 // By 8 - n to the left is by n to the right.
+#[tactic(auto, using(crate::proofs::Shift::turns))]
 fn rotated_left(b: u8, n: u16) -> u8
     requires { n < 9 }
     ensures { result ≡ rotated_left b n }
@@ -75,6 +75,7 @@ fn rotated_left(b: u8, n: u16) -> u8
 }
 
 // Bit 7 is copied into the eight bits above the byte, from where the shift fills in.
+#[tactic(auto, using(crate::proofs::Shift::fills))]
 fn filled_right(b: u8, n: u16) -> u8
     requires { n < 8 }
     ensures { result ≡ filled_right b n }
@@ -84,17 +85,11 @@ fn filled_right(b: u8, n: u16) -> u8
     (extended >> n & 255) as u8
 }
 
+// One of two masks, as modes C, D and E have them: the table names this choice (`if_shifted`).
 fn if_shifted(n: u16, shifted: u8, unshifted: u8) -> u8
     ensures { result ≡ if_shifted n shifted unshifted }
 {
     if n == 0 { unshifted } else { shifted }
-}
-
-// n - 1, the place of the last bit that a shift to the right moves out; 0 where it moves none.
-fn below(n: u16) -> u16
-    ensures { result ≡ n - 1 }
-{
-    if n == 0 { 0 } else { n - 1 }
 }
 
 fn row(res: u8, sets: u8, carry: bool, overflow: bool) -> UnitRow
@@ -109,7 +104,7 @@ fn row(res: u8, sets: u8, carry: bool, overflow: bool) -> UnitRow
 }
 
 // The table, a row a mode: result, sets, C, O. C of a subtraction is a borrow: modes 1, 7, 9 and F.
-#[tactic(auto, unfolding(crate::specs::Unit::table))]
+#[tactic(auto, using(crate::proofs::Shift::turns_back), unfolding(crate::specs::Unit::table))]
 fn row_at(mode: u8, a: u8, b: u8) -> UnitRow
     requires { mode < 16 }
     ensures { result ≡ row_at mode a b }
@@ -117,41 +112,37 @@ fn row_at(mode: u8, a: u8, b: u8) -> UnitRow
     let n = count(a);
     let zc = if_shifted(n, ZC, NONE);
     let zcs = if_shifted(n, ZCS, ONLY_S);
-    let out = is_set(below(n), b as u16);
+    // the last bit that a shift to the right moves out; bit 0 where it moves none
+    let out = is_set(n.saturating_sub(1), b as u16);
     match mode {
-        0x0 => row(wrapping_add_u8(a, b), ZCSO, carries(a, b), sum_out(a, b)),
-        0x1 => row(wrapping_sub_u8(a, b), ZCSO, a < b, difference_out(a, b)),
+        0x0 => row(a.wrapping_add(b), ZCSO, carries(a, b), sum_out(a, b)),
+        0x1 => row(a.wrapping_sub(b), ZCSO, a < b, difference_out(a, b)),
         0x2 => row(a, NONE, false, false),
         0x3 => row(b, NONE, false, false),
         0x4 => row(a & b, ONLY_Z, false, false),
         0x5 => row(a | b, ONLY_Z, false, false),
         0x6 => row(a ^ b, ONLY_Z, false, false),
-        0x7 => row(wrapping_sub_u8(b, a), ZCSO, b < a, difference_out(b, a)),
-        0x8 => row(wrapping_add_u8(b, 1), ZCSO, b == 255, b == 127),
-        0x9 => row(wrapping_sub_u8(b, 1), ZCSO, b == 0, b == 128),
+        0x7 => row(b.wrapping_sub(a), ZCSO, b < a, difference_out(b, a)),
+        0x8 => row(b.wrapping_add(1), ZCSO, b == 255, b == 127),
+        0x9 => row(b.wrapping_sub(1), ZCSO, b == 0, b == 128),
         0xA => row(rotated_left(b, n), NONE, false, false),
         0xB => row(rotated_left(b, 8 - n), NONE, false, false),
         0xC => row(b << n, zc, is_set(8 - n, b as u16), false),
         0xD => row(b >> n, zc, out, false),
         0xE => row(filled_right(b, n), zcs, out, false),
-        _ => row(wrapping_sub_u8(0, b), ZCSO, 0 < b, b == 128),
+        _ => row(0u8.wrapping_sub(b), ZCSO, 0 < b, b == 128),
     }
-}
-
-fn one_if(test: bool) -> u8
-    ensures { (result ≡ one_if test) × (result < 2) }
-{
-    test as u8
 }
 
 // Four flags as one number, bits as in SR.
 fn pack(z: bool, c: bool, s: bool, o: bool) -> u8
     ensures { (result ≡ packed z c s o) × (result < 16) }
 {
-    one_if(z) * 8 + one_if(c) * 4 + one_if(s) * 2 + one_if(o)
+    u8::from(z) * 8 + u8::from(c) * 4 + u8::from(s) * 2 + u8::from(o)
 }
 
 // "Flags not set keep their value": the flags given under the mask, those before elsewhere.
+#[tactic(auto, using(crate::proofs::Flags::merges))]
 fn merge(sets: u8, given: u8, before: u8) -> u8
     requires { (sets < 16) × (given < 16) × (before < 16) }
     ensures { result ≡ merged sets given before }
@@ -159,26 +150,16 @@ fn merge(sets: u8, given: u8, before: u8) -> u8
     given & sets | before & 15 - sets
 }
 
-fn refused(refusal: u8) -> Computed
-    ensures { result ≡ computed_as refusal 0 0 }
-{
-    Computed {
-        refusal,
-        result: 0,
-        flags: 0,
-    }
-}
-
-// Result and flags of a mode on a and b, after the flags in SR. Refuses 14: mode above 15; then 13: SR above 15.
+// Result and flags of a mode on a and b, after the flags in SR. Refuses 14: mode above 15; then 13: SR above 15. So mode and SR are numbers (`UnitPromise`).
 #[tactic(auto, using(crate::proofs::Flags::masked), unfolding(crate::specs::Unit::computed, crate::specs::Unit::unit_result, crate::specs::Unit::unit_flags))]
-pub fn unit(mode: u8, a: u8, b: u8, sr: u8) -> Computed
+pub fn unit(mode: u8, a: u8, b: u8, sr: u8) -> Result<Computed, Refusal>
     ensures { UnitPromise mode a b sr result }
 {
     if 15 < mode {
-        return refused(FIELD_OUT_OF_RANGE);
+        return Err(Refusal::FieldOutOfRange);
     }
     if 15 < sr {
-        return refused(REGISTER_OUT_OF_RANGE);
+        return Err(Refusal::RegisterOutOfRange);
     }
     let row = row_at(mode, a, b);
     let result = row.result;
@@ -188,9 +169,8 @@ pub fn unit(mode: u8, a: u8, b: u8, sr: u8) -> Computed
         is_set(7, result as u16),
         row.overflow,
     );
-    Computed {
-        refusal: ACCEPTED,
+    Ok(Computed {
         result,
         flags: merge(row.sets, given, sr),
-    }
+    })
 }

@@ -3,10 +3,11 @@ ghost use Rattle.std.specs.Prelude.{◌≡◌, ◌+◌, ◌-◌, ◌*◌, ◌^�
 ghost use Rattle.chip_core.specs.Word.{bits, is_set, instruction_at, fits, in_range, word_of, FlagPromise, DecodePromise, EncodePromise};
 
 use super::address::{DataAddress, ProgramAddress};
-use super::refusal::{ACCEPTED, FIELD_OUT_OF_RANGE, WORD_ABOVE_4095};
+use super::refusal::Refusal;
 
-// The kinds of document 01's table of words, with its fields.
-#[derive(Clone, Copy)]
+// The kinds of document 01's table of words, with its fields. The fields are numbers, and not enums, since `encode` refuses those that are out of their range
+// with 14 (`EncodePromise`).
+#[derive(Clone, Copy, Debug, PartialEq, Eq)]
 pub enum Instruction {
     S { k: u8 },
     Goto { target: ProgramAddress },
@@ -15,21 +16,8 @@ pub enum Instruction {
     I { mode: u8, immediate: u8 },
 }
 
-// What a word means, or the number of its refusal.
-#[derive(Clone, Copy)]
-pub enum Decoded {
-    Accepted(Instruction),
-    Refused(u8),
-}
-
-// The word of an instruction, or the number of the refusal and the word 0.
-#[derive(Clone, Copy)]
-pub struct Encoded {
-    pub refusal: u8,
-    pub word: u16,
-}
-
 // Bits high..low of a word, at most eight of them.
+#[tactic(auto, using(crate::proofs::Field::mask_fits, crate::proofs::Field::cut, crate::proofs::Field::bits_lt))]
 pub(crate) fn bits(high: u16, low: u16, word: u16) -> u8
     requires { (low ≤ high) × (high < 16) × (high < low + 8) }
     ensures { result ≡ bits high low word }
@@ -55,6 +43,7 @@ fn join(high: u16, low: u16, width: u16) -> u16
 }
 
 // The table of words, left to right: the pattern of bits 11..8 picks the kind.
+#[tactic(auto, using(crate::proofs::Kind::at_s, crate::proofs::Kind::at_goto, crate::proofs::Kind::at_m, crate::proofs::Kind::at_jump_if, crate::proofs::Kind::at_i))]
 pub(crate) fn instruction_at(word: u16) -> Instruction
     ensures { result ≡ instruction_at word }
 {
@@ -82,17 +71,20 @@ pub(crate) fn instruction_at(word: u16) -> Instruction
     }
 }
 
-// The instruction at a word. Refuses 10: word above 4095.
-pub fn decode(word: u16) -> Decoded
+// The instruction at a word. Refuses 10: word above 4095. It has a name of its own, as `encode` has, and is no `try_from`: both are public, and
+// document 01 names the decoder and the encoder (`DecodePromise`, `EncodePromise`).
+#[tactic(auto, unfolding(crate::specs::Word::decoded))]
+pub fn decode(word: u16) -> Result<Instruction, Refusal>
     ensures { DecodePromise word result }
 {
     if 4095 < word {
-        return Decoded::Refused(WORD_ABOVE_4095);
+        return Err(Refusal::WordAbove4095);
     }
-    Decoded::Accepted(instruction_at(word))
+    Ok(instruction_at(word))
 }
 
 // Whether a field stays within its width.
+#[tactic(auto, using(crate::proofs::Field::power))]
 fn fits(width: u16, field: u8) -> bool
     requires { width < 16 }
     ensures { result ≡ fits width field }
@@ -101,6 +93,7 @@ fn fits(width: u16, field: u8) -> bool
 }
 
 // Whether each field stays within the bits that the table gives it.
+#[tactic(auto, unfolding(crate::specs::Word::in_range))]
 fn in_range(instruction: Instruction) -> bool
     ensures { result ≡ in_range instruction }
 {
@@ -114,6 +107,7 @@ fn in_range(instruction: Instruction) -> bool
 }
 
 // The table of words, right to left.
+#[tactic(auto, unfolding(crate::specs::Word::word_of))]
 fn word_of(instruction: Instruction) -> u16
     requires { in_range instruction ≡ true }
     ensures { result ≡ word_of instruction }
@@ -134,23 +128,18 @@ fn word_of(instruction: Instruction) -> u16
 }
 
 // The word of an instruction. Refuses 14: a field outside its range.
-pub fn encode(instruction: Instruction) -> Encoded
+#[tactic(auto, unfolding(crate::specs::Word::encoded))]
+pub fn encode(instruction: Instruction) -> Result<u16, Refusal>
     ensures { EncodePromise instruction result }
 {
-    if in_range(instruction) {
-        Encoded {
-            refusal: ACCEPTED,
-            word: word_of(instruction),
-        }
-    } else {
-        Encoded {
-            refusal: FIELD_OUT_OF_RANGE,
-            word: 0,
-        }
+    if !in_range(instruction) {
+        return Err(Refusal::FieldOutOfRange);
     }
+    Ok(word_of(instruction))
 }
 
 // Whether a flag of SR is 1: 0 = O, 1 = S, 2 = C, 3 = Z. A flag above 7 is no bit of a byte, and is 0.
+#[tactic(auto, unfolding(crate::specs::Word::flag))]
 pub fn is_flag_set(flag: u8, sr: u8) -> bool
     ensures { FlagPromise flag sr result }
 {

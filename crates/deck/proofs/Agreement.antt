@@ -1,20 +1,21 @@
 -- Demand 3. What one line keeps between the run of lines and the machine, n lines keep; a fresh load is one of the places to begin. The promises of the functions
 -- then say that the runs are those of `translate`, `run_lines`, `fresh` and `run`.
 -- Assumes nothing.
-use Rattle.std.proofs.Common.{◌≡◌, ℕ, ◌+◌, ◌*◌, Bool, true, false, cond, eqb, ltb, List, length, sym, refl, ap, ◌∙◌, arith, ltb-true}
+use Rattle.std.proofs.Common.{◌≡◌, ℕ, ◌+◌, ◌*◌, Bool, true, false, cond, eqb, ltb, List, length, sym, refl, ap, ◌∙◌, arith, ltb-true, Result}
+use Rattle.chip_core.proofs.Answered.{is_ok}
 use Rattle.chip_core.proofs.Effects.{none_changed}
 use Rattle.chip_core.proofs.Iteration.{total_times, kept_together}
-use Rattle.chip_core.specs.Clock.{clock, RunPromise}
+use Rattle.chip_core.specs.Clock.{clock}
 use Rattle.chip_core.specs.Instruction.{visible}
-use Rattle.chip_core.specs.Machine.{State, memory_of, state, freshly_loaded, clocked_as}
-use Rattle.chip_core.specs.Refusal.{accepted}
+use Rattle.chip_core.specs.Machine.{State, memory_of, state, freshly_loaded}
+use Rattle.chip_core.specs.Refusal.{accepted, number_and_values, answered}
 use Rattle.chip_core.specs.Rule.{Visible, OneCell}
-use Rattle.chip_core.specs.declared.machine.Clocked.{Clocked}
-use Rattle.deck.specs.Agreement.{Agree, after_clocks, AgreesFromAnyLine, AgreesFromLoad, FunctionsAgree, OneCellALine, Same, Demand3}
+use Rattle.chip_core.specs.declared.refusal.Refusal.{Refusal}
+use Rattle.deck.specs.Agreement.{Agree, after_clocks, AgreesFromAnyLine, AgreesFromLoad, RunsAgree, FunctionsAgree, OneCellALine, Demand3}
 use Rattle.deck.specs.Bytes.{line_count}
 use Rattle.deck.specs.Deck.{deck_refusal}
 use Rattle.deck.specs.Image.{address, image}
-use Rattle.deck.specs.Lines.{line_state, line_step, line_cost, line_executed, LineState, clocks_of, words_executed, at_start, LinesPromise, after_lines, lines_refusal}
+use Rattle.deck.specs.Lines.{line_state, line_step, line_cost, line_executed, LineState, lines_of, clocks_of, words_executed, at_start, ran_as, LinesPromise, after_lines, lines_refusal}
 use Rattle.deck.specs.Operation.{Program, program, operation_at}
 use Rattle.deck.specs.declared.lines.LinesRun.{LinesRun}
 use Rattle.deck.proofs.Accepted.{lines_as, deck_accepted, image_at_start}
@@ -66,33 +67,36 @@ demand_3 deck ok = (from_any_line deck (sound deck ok), from_load deck (sound de
 
 -- the line runner, and a run of the image for the clocks that it reports
 pub runs_agree : (deck start : List ℕ) (asked : ℕ) → deck_refusal deck ≡ accepted → length start ≡ 16
-    → (ran : LinesRun) (cells : List ℕ) → LinesPromise asked deck start ran cells
-    → (clocked : Clocked) (others : List ℕ) → RunPromise ran.clocks freshly_loaded (image (program deck)) start clocked others
-    → Same ran cells clocked others × (ran.clocks ≡ 3 * words_executed (program deck) asked (at_start start))
-runs_agree deck start asked ok sixteen ran cells l clocked others r =
+    → (answer : Result LinesRun Refusal) (cells : List ℕ) → LinesPromise asked deck start answer cells
+    → RunsAgree answer cells (3 * words_executed (program deck) asked (at_start start)) freshly_loaded (image (program deck)) start
+runs_agree deck start asked ok sixteen answer cells l =
     let p = program deck in
-    let b = lines_as asked deck start ran cells ok sixteen l in
+    let b = lines_as asked deck start answer cells ok sixteen l in
     let g = (demand_3 deck ok).1 asked start in
-    let sum : ran.clocks ≡ 3 * words_executed p asked (at_start start) = ap (λ (x : LinesRun). x.clocks) b.0 ∙ g.clocks in
     let after : State = after_clocks p (3 * words_executed p asked (at_start start)) (state freshly_loaded start) in
-    let c : (clocked ≡ clocked_as accepted after.machine) × (others ≡ after.cells) =
-    rw (sum, image_accepted deck (sound deck ok) start sixteen) at r in (
-      record {
-        both_accepted = (ap (λ (x : LinesRun). x.refusal) b.0, ap (λ (x : Clocked). x.refusal) c.0);
-        acc = ap (λ (x : Clocked). x.machine.acc) c.0 ∙ ap (λ (v : Visible). v.acc) g.agree.sees ∙ sym (ap (λ (x : LinesRun). x.acc) b.0);
-        flags = ap (λ (x : Clocked). x.machine.sr) c.0 ∙ ap (λ (v : Visible). v.sr) g.agree.sees ∙ sym (ap (λ (x : LinesRun). x.flags) b.0);
-        pc = ap (λ (x : Clocked). x.machine.pc) c.0 ∙ g.agree.pc ∙ sym (ap (λ (x : LinesRun). x.pc) b.0);
-        fetches = ap (λ (x : Clocked). x.machine.stage) c.0 ∙ g.agree.fetches;
-        all_cells = c.1 ∙ ap (λ (v : Visible). v.cells) g.agree.sees ∙ sym b.1;
-      },
-      sum,
-    )
+    record {
+      ran = ran_as p (lines_of p asked (at_start start)) (clocks_of p asked (at_start start)) (after_lines p asked (at_start start));
+      accepts = b.0;
+      reports = g.clocks;
+      same = λ clocked others r.
+          let c : (number_and_values clocked ≡ answered accepted after.machine) × (others ≡ after.cells) =
+          rw (g.clocks, image_accepted deck (sound deck ok) start sixteen) at r in
+          record {
+            machine = after.machine;
+            accepts = is_ok clocked after.machine c.0;
+            acc = ap (λ (v : Visible). v.acc) g.agree.sees;
+            flags = ap (λ (v : Visible). v.sr) g.agree.sees;
+            pc = g.agree.pc;
+            fetches = g.agree.fetches;
+            all_cells = c.1 ∙ ap (λ (v : Visible). v.cells) g.agree.sees ∙ sym b.1;
+          };
+    }
 
 -- OF THE FUNCTIONS
 pub functions_agree : FunctionsAgree
-functions_agree deck output start asked sixteen translated output' t ok ran cells l machine fresh clocked others r =
-    let accepts = deck_accepted deck output translated output' t ok in
-    runs_agree deck start asked accepts sixteen ran cells l clocked others (rw (fresh, image_at_start deck output translated output' t ok) at r)
+functions_agree deck output start asked sixteen translated output' t words ok answer cells l machine fresh =
+    let accepts = deck_accepted deck output translated output' t words ok in
+    rw (fresh, image_at_start deck output translated output' t words ok) (runs_agree deck start asked accepts sixteen answer cells l)
 
 left_by : (deck start : List ℕ) (asked : ℕ) (test : Bool) (before after : List ℕ)
     → before ≡ cond test (after_lines (program deck) asked (at_start start)).sees.cells start

@@ -6,11 +6,8 @@ pub mod Instructions
 pub mod LineCode
 pub mod ListingDeck
 pub mod ListingText
-pub mod Lookup
 pub mod OneLine
 pub mod Parts
-pub mod Reading
-pub mod Rows
 pub mod Runs
 pub mod Sound
 pub mod Writing

@@ -8,7 +8,9 @@ use Rattle.deck.specs.Bytes.{label_count, label_line, line_count, line_count_at,
 use Rattle.deck.specs.Deck.{layout_checks, checks_of_label, checks_of_line, deck_refusal}
 use Rattle.deck.specs.Image.{total_words}
 use Rattle.deck.specs.Operation.{row_of, operation_at, program}
-use Rattle.deck.specs.Private.{Complete, line_refusal, Fits, Lands}
+use Rattle.deck.specs.Layout.{Complete}
+use Rattle.deck.specs.Private.{Fits, Lands}
+use Rattle.deck.specs.Records.{line_refusal}
 use Rattle.deck.proofs.Parts.{in_order, each_passed, of_label, of_line, both}
 
 -- the first five checks passed

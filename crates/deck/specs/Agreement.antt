@@ -1,7 +1,7 @@
 -- Demand 3: any accepted deck, run by the line rules, agrees with its translated image, clocked on the machine: Acc, flags, cells, PC, clocks. First of the
 -- rules and the clocks (`Demand3`), then of what the functions return (`FunctionsAgree`, `OneCellALine`).
 -- Assumes nothing.
-use Rattle.std.specs.Prelude.{◌≡◌, ℕ, ◌+◌, ◌*◌, ◌<◌, ◌≤◌, List, length, take}
+use Rattle.std.specs.Prelude.{◌≡◌, ℕ, ◌+◌, ◌*◌, ◌<◌, ◌≤◌, List, length, take, Result, Ok}
 use Rattle.chip_core.specs.Clock.{clock, RunPromise}
 use Rattle.chip_core.specs.Instruction.{visible}
 use Rattle.chip_core.specs.Iterate.{iterate}
@@ -9,15 +9,14 @@ use Rattle.chip_core.specs.Machine.{State, state, freshly_loaded, FreshPromise, 
 use Rattle.chip_core.specs.Refusal.{accepted}
 use Rattle.chip_core.specs.Rule.{OneCell}
 use Rattle.chip_core.specs.declared.control.Stage.TheVariants.{Fetch}
-use Rattle.chip_core.specs.declared.machine.Clocked.{Clocked}
 use Rattle.chip_core.specs.declared.machine.Machine.{Machine}
+use Rattle.chip_core.specs.declared.refusal.Refusal.{Refusal}
 use Rattle.deck.specs.Deck.{deck_refusal}
 use Rattle.deck.specs.Image.{image, pc_at}
 use Rattle.deck.specs.Lines.{LineState, after_lines, clocks_of, LinesPromise, at_start, words_executed}
 use Rattle.deck.specs.Operation.{Program, program}
 use Rattle.deck.specs.Translate.{TranslatePromise}
 use Rattle.deck.specs.declared.lines.LinesRun.{LinesRun}
-use Rattle.deck.specs.declared.translate.Translated.{Translated}
 
 -- A machine that stands where a run of lines stands:
 pub record Agree (p : Program) (lines : LineState) (s : State) : Type 0 where
@@ -53,14 +52,23 @@ AgreesFromLoad p = (n : ℕ) (cells : List ℕ) → AgreeAfter p n (at_start cel
 abbrev pub Demand3 : Type 0
 Demand3 = (deck : List ℕ) → deck_refusal deck ≡ accepted → AgreesFromAnyLine (program deck) × AgreesFromLoad (program deck)
 
--- what the line runner returned and left in its cells, and what `run` returned and left in its own
-pub record Same (ran : LinesRun) (cells : List ℕ) (clocked : Clocked) (others : List ℕ) : Type 0 where
-  pub both_accepted : (ran.refusal ≡ accepted) × (clocked.refusal ≡ accepted)
-  pub acc : clocked.machine.acc ≡ ran.acc
-  pub flags : clocked.machine.sr ≡ ran.flags
-  pub pc : clocked.machine.pc ≡ ran.pc
-  pub fetches : clocked.machine.stage ≡ Fetch
+-- what the line runner came to and left in its cells, and what `run` returned and left in its own
+pub record Same (ran : LinesRun) (cells : List ℕ) (clocked : Result Machine Refusal) (others : List ℕ) : Type 0 where
+  pub machine : Machine
+  pub accepts : clocked ≡ Ok machine
+  pub acc : machine.acc ≡ ran.acc
+  pub flags : machine.sr ≡ ran.flags
+  pub pc : machine.pc ≡ ran.pc
+  pub fetches : machine.stage ≡ Fetch
   pub all_cells : others ≡ cells
+
+-- The line runner's answer is accepted, and it reports so many clocks. Whatever `run` then returns and leaves, asked for those clocks of a machine with these words
+-- and with the cells that the line runner began with, is the same.
+pub record RunsAgree (answer : Result LinesRun Refusal) (cells : List ℕ) (clocks : ℕ) (machine : Machine) (words start : List ℕ) : Type 0 where
+  pub ran : LinesRun
+  pub accepts : answer ≡ Ok ran
+  pub reports : ran.clocks ≡ clocks
+  pub same : (clocked : Result Machine Refusal) (others : List ℕ) → RunPromise ran.clocks machine words start clocked others → Same ran cells clocked others
 
 -- OF THE FUNCTIONS, by their promises alone. `translate` accepts a deck and leaves its words at the start of an output; `run_lines` runs so many of its lines on
 -- sixteen cells; `run` clocks those words on the machine of `fresh` and the same sixteen cells for the clocks that `run_lines` reports. Those are three for each
@@ -68,14 +76,13 @@ pub record Same (ran : LinesRun) (cells : List ℕ) (clocked : Clocked) (others 
 abbrev pub FunctionsAgree : Type 0
 FunctionsAgree =
     (deck output start : List ℕ) (asked : ℕ) → length start ≡ 16
-    → (translated : Translated) (output' : List ℕ) → TranslatePromise deck output translated output' → translated.refusal ≡ accepted
-    → (ran : LinesRun) (cells : List ℕ) → LinesPromise asked deck start ran cells
+    → (translated : Result ℕ Refusal) (output' : List ℕ) → TranslatePromise deck output translated output' → (words : ℕ) → translated ≡ Ok words
+    → (answer : Result LinesRun Refusal) (cells : List ℕ) → LinesPromise asked deck start answer cells
     → (machine : Machine) → FreshPromise machine
-    → (clocked : Clocked) (others : List ℕ) → RunPromise ran.clocks machine (take translated.words output') start clocked others
-    → Same ran cells clocked others × (ran.clocks ≡ 3 * words_executed (program deck) asked (at_start start))
+    → RunsAgree answer cells (3 * words_executed (program deck) asked (at_start start)) machine (take words output') start
 
 -- One line more asked of `run_lines` changes one cell more at most.
 abbrev pub OneCellALine : Type 0
 OneCellALine =
-    (deck start : List ℕ) (asked : ℕ) (ran longer : LinesRun) (before after : List ℕ)
+    (deck start : List ℕ) (asked : ℕ) (ran longer : Result LinesRun Refusal) (before after : List ℕ)
     → LinesPromise asked deck start ran before → LinesPromise (asked + 1) deck start longer after → OneCell before after

@@ -1,8 +1,9 @@
 -- The refusals of a deck, in document 01's order: "Deck: 1 for K and labels, 1 for L, 3, 1 for records, 2, then 4 in label order, then line by line 5, 6,
 -- 7, then 8."
 -- Assumes nothing.
-use Rattle.std.specs.Prelude.{◌≡◌, ℕ, zero, suc, not, List, [], ◌∷◌, ◌++◌, length, nat_lt}
-use Rattle.chip_core.specs.Refusal.{deck_too_short, bytes_after_lines, lines_above_256, label_not_below_lines, operation_above_27, second_byte_not_allowed, operand_not_allowed, words_above_256, Check, check, first_broken}
+use Rattle.std.specs.Prelude.{◌≡◌, ℕ, zero, suc, not, List, [], ◌∷◌, ◌++◌, length, nat_lt, Result}
+use Rattle.chip_core.specs.Refusal.{deck_too_short, bytes_after_lines, lines_above_256, label_not_below_lines, operation_above_27, second_byte_not_allowed, operand_not_allowed, words_above_256, Check, check, first_broken, refusal_number}
+use Rattle.chip_core.specs.declared.refusal.Refusal.{Refusal}
 use Rattle.deck.specs.Bytes.{label_count, label_line, line_count_at, line_count, record_at, operation_byte, second_byte, operand_byte}
 use Rattle.deck.specs.Image.{total_words}
 use Rattle.deck.specs.Operation.{row_of, program}
@@ -55,5 +56,5 @@ unfoldable pub deck_refusal : List ℕ → ℕ
 deck_refusal deck = first_broken (deck_checks deck)
 
 -- what `check` promises of its answer
-abbrev pub CheckPromise : List ℕ → ℕ → Type 0
-CheckPromise deck answer = answer ≡ deck_refusal deck
+abbrev pub CheckPromise : List ℕ → Result Unit Refusal → Type 0
+CheckPromise deck answer = refusal_number answer ≡ deck_refusal deck

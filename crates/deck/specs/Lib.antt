@@ -6,4 +6,6 @@ pub mod Translate
 pub mod Lines
 pub mod Agreement
 pub mod Listing
+pub mod Layout
+pub mod Records
 pub mod Private

@@ -1,10 +1,11 @@
 -- Document 01's line rules, which "speak of lines alone: position, Acc, flags, cells", and what the line runner answers.
 -- Assumes nothing.
-use Rattle.std.specs.Prelude.{◌≡◌, ℕ, ◌+◌, ◌*◌, Bool, cond, not, List, [], ◌∷◌, ◌++◌, length, ◌==◌, nat_lt}
+use Rattle.std.specs.Prelude.{◌≡◌, ℕ, ◌+◌, ◌*◌, Bool, cond, not, List, [], ◌∷◌, ◌++◌, length, ◌==◌, nat_lt, Result}
 use Rattle.chip_core.specs.Iterate.{iterate, total}
-use Rattle.chip_core.specs.Refusal.{accepted, first_broken, check, not_sixteen_cells}
+use Rattle.chip_core.specs.Refusal.{accepted, first_broken, check, not_sixteen_cells, number_and_values, answered}
 use Rattle.chip_core.specs.Rule.{Act, Visible, effect}
-use Rattle.chip_core.specs.Word.{program_address, flag}
+use Rattle.chip_core.specs.Word.{flag}
+use Rattle.chip_core.specs.declared.refusal.Refusal.{Refusal}
 use Rattle.deck.specs.Deck.{deck_checks}
 use Rattle.deck.specs.Image.{pc_at}
 use Rattle.deck.specs.Operation.{Program, program}
@@ -96,7 +97,6 @@ lines_refusal deck count = first_broken (deck_checks deck ++ check (not (count =
 abbrev pub ran_as : Program → ℕ → ℕ → LineState → LinesRun
 ran_as p lines clocks s =
     record {
-      refusal = accepted;
       lines = lines;
       clocks = clocks;
       acc = s.sees.acc;
@@ -105,16 +105,11 @@ ran_as p lines clocks s =
       pc = pc_at p s.position;
     }
 
--- "A refusal returns its number; .. other result fields are 0, cells and output are unchanged."
-abbrev pub no_lines : ℕ → LinesRun
-no_lines number =
-    record { refusal = number; lines = 0; clocks = 0; acc = 0; flags = 0; position = 0; pc = program_address 0 }
-
--- what `run_lines` promises of its answer and of the cells: ".. the cells hold what the lines left"
-abbrev pub LinesPromise : ℕ → List ℕ → List ℕ → LinesRun → List ℕ → Type 0
+-- What `run_lines` promises of its answer and of the cells: ".. the cells hold what the lines left", and after a refusal "cells and output are unchanged."
+abbrev pub LinesPromise : ℕ → List ℕ → List ℕ → Result LinesRun Refusal → List ℕ → Type 0
 LinesPromise asked deck cells answer cells' =
     let number : ℕ = lines_refusal deck (length cells) in
     let p : Program = program deck in
     let end : LineState = after_lines p asked (at_start cells) in
-    (answer ≡ cond (number == accepted) (ran_as p (lines_of p asked (at_start cells)) (clocks_of p asked (at_start cells)) end) (no_lines number))
+    (number_and_values answer ≡ answered number (ran_as p (lines_of p asked (at_start cells)) (clocks_of p asked (at_start cells)) end))
     × (cells' ≡ cond (number == accepted) end.sees.cells cells)

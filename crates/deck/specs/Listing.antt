@@ -1,12 +1,12 @@
 -- The text of the listing program, byte for byte.
 -- Assumes nothing.
-use Rattle.std.specs.Prelude.{◌≡◌, ℕ, zero, suc, ◌+◌, ◌/◌, ◌%◌, cond, List, [], ◌∷◌, ◌++◌, length, ◌==◌, nat_lt, slice_index}
-use Rattle.chip_core.specs.Refusal.{accepted, output_too_short, check, first_broken}
+use Rattle.std.specs.Prelude.{◌≡◌, ℕ, zero, suc, ◌+◌, ◌/◌, ◌%◌, cond, List, [], ◌∷◌, ◌++◌, length, ◌==◌, nat_lt, slice_index, Result}
+use Rattle.chip_core.specs.Refusal.{accepted, output_too_short, check, first_broken, number_and_values, answered}
+use Rattle.chip_core.specs.declared.refusal.Refusal.{Refusal}
 use Rattle.deck.specs.Deck.{deck_refusal}
 use Rattle.deck.specs.Image.{image}
 use Rattle.deck.specs.Operation.{program}
 use Rattle.deck.specs.Translate.{starting_with}
-use Rattle.deck.specs.declared.listing.Listed.{Listed}
 
 abbrev pub newline : ℕ
 newline = 10
@@ -58,12 +58,9 @@ listing_text deck = listing_of (deck_refusal deck) (image (program deck))
 abbrev pub listing_refusal : ℕ → ℕ → ℕ
 listing_refusal count room = first_broken (check (nat_lt room count) output_too_short ∷ [])
 
-abbrev pub listed_as : ℕ → ℕ → Listed
-listed_as number count = record { refusal = number; count = cond (number == accepted) count 0 }
-
 -- what `listing` promises of its answer and of the output that it leaves
-abbrev pub ListingPromise : List ℕ → List ℕ → Listed → List ℕ → Type 0
+abbrev pub ListingPromise : List ℕ → List ℕ → Result ℕ Refusal → List ℕ → Type 0
 ListingPromise deck output answer output' =
     let number : ℕ = listing_refusal (length (listing_text deck)) (length output) in
-    (answer ≡ listed_as number (length (listing_text deck)))
+    (number_and_values answer ≡ answered number (length (listing_text deck)))
     × (output' ≡ cond (number == accepted) (starting_with (listing_text deck) output) output)

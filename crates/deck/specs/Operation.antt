@@ -1,10 +1,9 @@
 -- Document 01's table of operations, and the program that a deck holds: its lines, with every label looked up.
 -- Assumes nothing.
-use Rattle.std.specs.Prelude.{ℕ, ◌-◌, cond, List, [], ◌∷◌, ◌==◌, nat_lt}
-use Rattle.chip_core.specs.Refusal.{accepted, operand_not_allowed}
-use Rattle.chip_core.specs.Word.{NumberAndValues, data_address}
+use Rattle.std.specs.Prelude.{ℕ, ◌-◌, cond, List, [], ◌∷◌, ◌==◌, nat_lt, Option, Some, None}
+use Rattle.chip_core.specs.Refusal.{accepted, operand_not_allowed, NumberAndValues}
+use Rattle.chip_core.specs.Word.{data_address}
 use Rattle.deck.specs.Bytes.{label_count, label_line, line_count, operation_byte, second_byte, operand_byte}
-use Rattle.deck.specs.declared.label.Label.{Label}
 use Rattle.deck.specs.declared.operation.Operation.{Operation}
 use Rattle.deck.specs.declared.operation.Operation.TheVariants.{M, I, Goto, JumpIf, JumpUnless, Nop}
 
@@ -51,9 +50,9 @@ abbrev pub program : List ℕ → Program
 program deck = record { count = line_count deck; line = operation_at deck }
 
 -- "the label is looked up first, and a missing one ends the translation with 7": the number and the values of each case of a lookup
-abbrev pub label_number_and_values : Label → NumberAndValues ℕ
-label_number_and_values (Label.Line line) = record { number = accepted; values = line ∷ [] }
-label_number_and_values Label.Missing = record { number = operand_not_allowed; values = [] }
+abbrev pub label_number_and_values : Option ℕ → NumberAndValues ℕ
+label_number_and_values (Some line) = record { number = accepted; values = line ∷ [] }
+label_number_and_values None = record { number = operand_not_allowed; values = [] }
 
 -- "label not below K" is missing
 unfoldable pub looked_up : List ℕ → ℕ → NumberAndValues ℕ

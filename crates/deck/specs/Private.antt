@@ -1,42 +1,16 @@
 -- What the contracts of private functions cite and no public promise does: who reads the promises may pass this file over.
 -- Assumes nothing.
-use Rattle.std.specs.Prelude.{◌≡◌, ℕ, ◌+◌, ◌<◌, ◌≤◌, cond, List, [], ◌∷◌, ◌++◌, length, take, drop, ◌==◌, slice_index_or}
-use Rattle.chip_core.specs.Refusal.{accepted, first_broken}
+use Rattle.std.specs.Prelude.{◌≡◌, ℕ, ◌+◌, ◌<◌, ◌≤◌, List, ◌++◌, length, take, drop, slice_index_or}
 use Rattle.chip_core.specs.Rule.{Visible}
-use Rattle.chip_core.specs.Word.{NumberAndValues}
 use Rattle.chip_core.specs.declared.word.Instruction.{Instruction}
-use Rattle.deck.specs.Bytes.{line_count, record_at}
-use Rattle.deck.specs.Deck.{record_checks, checks_of_line}
+use Rattle.deck.specs.Bytes.{line_count}
 use Rattle.deck.specs.Image.{instructions_of}
 use Rattle.deck.specs.Lines.{line_state, after_lines, at_start, lines_of, clocks_of}
-use Rattle.deck.specs.Operation.{row_of, Program, program}
-use Rattle.deck.specs.declared.line.Line.{Line}
+use Rattle.deck.specs.Operation.{Program, program}
 use Rattle.deck.specs.declared.lines.Reached.{Reached}
 use Rattle.deck.specs.declared.lines.Registers.{Registers}
 use Rattle.deck.specs.declared.operation.Operation.{Operation}
 use Rattle.deck.specs.declared.operation.Operation.TheVariants.{M, I, Goto, JumpIf, JumpUnless, Nop}
-
--- a line that is read, by its number and values
-abbrev pub line_number_and_values : Line → NumberAndValues Operation
-line_number_and_values (Line.Accepted operation) = record { number = accepted; values = operation ∷ [] }
-line_number_and_values (Line.Refused number) = record { number = number; values = [] }
-
-abbrev pub read_as : ℕ → Operation → NumberAndValues Operation
-read_as number operation = record { number = number; values = cond (number == accepted) (operation ∷ []) [] }
-
--- a record that is read: the number of the first rule that it breaks, and what it is
-abbrev pub record_read : List ℕ → ℕ → ℕ → ℕ → NumberAndValues Operation
-record_read deck operation second operand =
-    read_as (first_broken (record_checks deck operation second operand)) ((row_of deck operation).means second operand)
-
--- the number of the first rule that a line breaks
-unfoldable pub line_refusal : List ℕ → ℕ → ℕ
-line_refusal deck line = first_broken (checks_of_line deck line)
-
--- what the layout checks leave: the lines are at most 256, and the deck ends where they end
-pub record Complete (deck : List ℕ) : Type 0 where
-  pub few : line_count deck ≤ 256
-  pub ends : length deck ≡ record_at deck (line_count deck)
 
 -- what the table allows a line to be: each field is within the bits that its words have for it,
 abbrev pub Fits : Operation → Type 0

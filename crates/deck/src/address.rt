@@ -3,32 +3,44 @@ ghost use Rattle.std.specs.Prelude.{◌≡◌, ◌<◌, ◌≤◌};
 ghost use Rattle.deck.specs.Bytes.{line_count};
 ghost use Rattle.deck.specs.Image.{address};
 ghost use Rattle.deck.specs.Operation.{program, operation_at, words};
-ghost use Rattle.deck.specs.Private.{Complete};
 
-use super::bytes::record_at;
+use super::decks::{AcceptedDeck, CompleteDeck};
 
-// The "words" column: every line has one word, but operation 26 two.
-fn words_at(deck: &[u8], line: u16) -> u16
-    requires { Complete deck.now × (line < line_count deck.now) }
-    ensures { result ≡ words (operation_at deck.now line) }
-{
-    if deck[record_at(deck, line)] == 26 {
-        2
-    } else {
-        1
+impl CompleteDeck<'_> {
+    // The "words" column: every line has one word, but operation 26 two.
+    #[tactic(auto, unfolding(crate::specs::Operation::operation_at, crate::specs::Operation::row_of))]
+    fn words_at(self, line: u16) -> u16
+        requires { line < line_count self.bytes.now }
+        ensures { result ≡ words (operation_at self.entry.bytes.now line) }
+    {
+        if self.record(line).operation == 26 {
+            2
+        } else {
+            1
+        }
+    }
+
+    // "A line's address is the count of words before it.": counted anew for each line that is asked for, a byte a line.
+    #[tactic(auto, using(crate::proofs::Addresses::address_next, crate::proofs::Addresses::words_le), unfolding(crate::specs::Image::address))]
+    pub(crate) fn address_of(self, line: u16) -> u16
+        requires { line ≤ line_count self.bytes.now }
+        ensures { result ≡ address (program self.entry.bytes.now) line }
+    {
+        let mut counted = 0;
+        for before in 0..line {
+            counted += self.words_at(before);
+        }
+        counted
     }
 }
 
-// "A line's address is the count of words before it.": counted anew for each line that is asked for, a byte a line.
-pub(crate) fn address_of(deck: &[u8], line: u16) -> u16
-    requires { Complete deck.now × (line ≤ line_count deck.now) }
-    ensures { result ≡ address (program deck.now) line }
-{
-    let mut counted: u16 = 0;
-    let mut before: u16 = 0;
-    while before < line {
-        counted += words_at(deck, before);
-        before += 1;
+// An accepted deck answers as the complete one that it is.
+impl AcceptedDeck<'_> {
+    // The address of a line, or of the position past the last line.
+    pub(crate) fn address_of(self, line: u16) -> u16
+        requires { line ≤ line_count self.bytes.now }
+        ensures { result ≡ address (program self.entry.bytes.now) line }
+    {
+        self.complete().address_of(line)
     }
-    counted
 }

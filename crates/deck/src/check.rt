@@ -1,107 +1,89 @@
 // The check of a deck: "1 for K and labels, 1 for L, 3, 1 for records, 2, then 4 in label order, then line by line 5, 6, 7, then 8."
-ghost use Rattle.std.specs.Prelude.{◌≡◌, if◌then◌else◌, nat_eq};
-ghost use Rattle.chip_core.specs.Refusal.{accepted, first_broken};
-ghost use Rattle.deck.specs.Deck.{layout_checks, label_checks, line_checks, words_checks, CheckPromise};
-ghost use Rattle.deck.specs.Private.{Complete};
+ghost use Rattle.std.specs.Prelude.{◌≡◌};
+ghost use Rattle.std.specs.Result.{IfOk};
+ghost use Rattle.chip_core.specs.Refusal.{first_broken, refusal_number};
+ghost use Rattle.deck.specs.Deck.{layout_checks, label_checks, line_checks, words_checks, deck_refusal, CheckPromise};
 
-use super::address::address_of;
-use super::bytes::{label_count, label_line, line_count, line_count_at, record_at};
-use super::line::{Line, read_line};
-use chip_core::refusal::{
-    ACCEPTED, BYTES_AFTER_LINES, DECK_TOO_SHORT, LABEL_NOT_BELOW_LINES, LINES_ABOVE_256,
-    WORDS_ABOVE_256,
-};
+use super::bytes::{line_count, line_count_at, record_at};
+use super::decks::{AcceptedDeck, CompleteDeck};
+use chip_core::refusal::Refusal;
+
+// As many bytes of a deck as can alter the answer: one more than the longest that is accepted, which has K and 255 labels, L and 256 lines.
+pub const MOST_BYTES: usize = 1 + 2 * 255 + 2 + 3 * 256 + 1;
 
 // "1 for K and labels, 1 for L, 3, 1 for records, 2"
-fn layout_refusal(deck: &[u8]) -> u8
-    ensures { result ≡ first_broken (layout_checks deck.now) }
+fn check_layout(deck: &[u8]) -> Result<(), Refusal>
+    ensures { refusal_number result ≡ first_broken (layout_checks deck.now) }
 {
     let length = deck.len();
-    if length == 0 {
-        return DECK_TOO_SHORT;
-    }
-    if length < line_count_at(deck) {
-        return DECK_TOO_SHORT;
-    }
-    if length < record_at(deck, 0) {
-        return DECK_TOO_SHORT;
+    if length == 0 || length < line_count_at(deck) || length < record_at(deck, 0) {
+        return Err(Refusal::DeckTooShort);
     }
     let lines = line_count(deck);
     let end = record_at(deck, lines);
     if 256 < lines {
-        return LINES_ABOVE_256;
+        return Err(Refusal::LinesAbove256);
     }
     if length < end {
-        return DECK_TOO_SHORT;
+        return Err(Refusal::DeckTooShort);
     }
     if end < length {
-        return BYTES_AFTER_LINES;
+        return Err(Refusal::BytesAfterLines);
     }
-    ACCEPTED
+    Ok(())
 }
 
 // "4 in label order"
-fn labels_refusal(deck: &[u8]) -> u8
-    requires { Complete deck.now }
-    ensures { result ≡ first_broken (label_checks deck.now) }
+fn check_labels(deck: CompleteDeck<'_>) -> Result<(), Refusal>
+    ensures { refusal_number result ≡ first_broken (label_checks deck.entry.bytes.now) }
 {
-    let labels = label_count(deck);
-    let lines = line_count(deck);
-    let mut label: u8 = 0;
-    while label < labels {
-        if lines <= label_line(deck, label) {
-            return LABEL_NOT_BELOW_LINES;
+    let lines = deck.line_count();
+    for label in 0..deck.label_count() {
+        if lines <= deck.label_line(label) {
+            return Err(Refusal::LabelNotBelowLines);
         }
-        label += 1;
     }
-    ACCEPTED
+    Ok(())
 }
 
 // "line by line 5, 6, 7"
-fn lines_refusal(deck: &[u8]) -> u8
-    requires { Complete deck.now }
-    ensures { result ≡ first_broken (line_checks deck.now) }
+fn check_lines(deck: CompleteDeck<'_>) -> Result<(), Refusal>
+    ensures { refusal_number result ≡ first_broken (line_checks deck.entry.bytes.now) }
 {
-    let lines = line_count(deck);
-    let mut line: u16 = 0;
-    while line < lines {
-        let read = read_line(deck, line);
-        if let Line::Refused(number) = read {
-            return number;
-        }
-        line += 1;
+    for line in 0..deck.line_count() {
+        deck.read_line(line)?;
     }
-    ACCEPTED
+    Ok(())
 }
 
 // "then 8": "W above 256"
-fn words_refusal(deck: &[u8]) -> u8
-    requires { Complete deck.now }
-    ensures { result ≡ first_broken (words_checks deck.now) }
+fn check_words(deck: CompleteDeck<'_>) -> Result<(), Refusal>
+    ensures { refusal_number result ≡ first_broken (words_checks deck.entry.bytes.now) }
 {
-    if 256 < address_of(deck, line_count(deck)) {
-        return WORDS_ABOVE_256;
+    if 256 < deck.address_of(deck.line_count()) {
+        return Err(Refusal::WordsAbove256);
     }
-    ACCEPTED
+    Ok(())
 }
 
-// The number of some checks, or else that of the checks after them.
-fn or_else(number: u8, after: u8) -> u8
-    ensures { result ≡ (if nat_eq number accepted then after else number) }
+// A deck that breaks no rule, or the first one that it breaks.
+#[tactic(auto, using(crate::proofs::Parts::in_order, crate::proofs::Sound::complete, chip_core::proofs::Answered::no_zero))]
+pub(crate) fn accept(bytes: &[u8]) -> Result<AcceptedDeck<'_>, Refusal>
+    ensures number { refusal_number result ≡ deck_refusal bytes.now }
+    ensures same { IfOk result (λ deck. deck.bytes.now ≡ bytes.now) }
 {
-    if number == ACCEPTED { after } else { number }
+    check_layout(bytes)?;
+    let deck = CompleteDeck { bytes };
+    check_labels(deck)?;
+    check_lines(deck)?;
+    check_words(deck)?;
+    Ok(AcceptedDeck { bytes })
 }
 
-// The number of the first rule that a deck breaks: 1 to 8, or 0 if it is accepted.
-pub fn check(deck: &[u8]) -> u8
+// Whether a deck is accepted, or else the first rule that it breaks: 1 to 8.
+pub fn check(deck: &[u8]) -> Result<(), Refusal>
     ensures { CheckPromise deck.now result }
 {
-    let layout = layout_refusal(deck);
-    if layout != ACCEPTED {
-        return layout;
-    }
-    let labels = labels_refusal(deck);
-    let lines = lines_refusal(deck);
-    let words = words_refusal(deck);
-    or_else(labels, or_else(lines, words))
+    accept(deck)?;
+    Ok(())
 }

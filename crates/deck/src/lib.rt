@@ -5,9 +5,11 @@
 mod address;
 mod bytes;
 pub mod check;
+mod decks;
 mod label;
 mod line;
 pub mod lines;
 pub mod listing;
 mod operation;
+mod text;
 pub mod translate;

@@ -1,122 +1,105 @@
 // Lines: a record read by its row of the table of operations.
 ghost use Rattle.std.specs.Prelude.{◌≡◌, ◌<◌, ◌≤◌, if◌then◌else◌, nat_eq};
-ghost use Rattle.chip_core.specs.Refusal.{accepted, first_broken};
+ghost use Rattle.chip_core.specs.Refusal.{first_broken, number_and_values, answered};
 ghost use Rattle.deck.specs.Bytes.{line_count};
-ghost use Rattle.deck.specs.Deck.{bound_checks, deck_refusal};
+ghost use Rattle.deck.specs.Deck.{bound_checks};
 ghost use Rattle.deck.specs.Operation.{operation_at};
-ghost use Rattle.deck.specs.Private.{Complete, line_refusal, read_as, record_read, line_number_and_values};
+ghost use Rattle.deck.specs.Records.{line_refusal, record_read};
 
-use super::bytes::record_at;
-use super::label::{Label, look_up};
+use super::bytes::Record;
+use super::decks::{AcceptedDeck, CompleteDeck};
 use super::operation::Operation;
 use chip_core::address::DataAddress;
-use chip_core::refusal::{OPERAND_NOT_ALLOWED, OPERATION_ABOVE_27, SECOND_BYTE_NOT_ALLOWED};
+use chip_core::refusal::Refusal;
 
-// What a line is, or the number of its refusal.
-#[derive(Clone, Copy)]
-pub(crate) enum Line {
-    Accepted(Operation),
-    Refused(u8),
-}
-
-// A line that is no jump: its second byte and its operand are below the bounds of its row, or it is refused.
-fn bounded(seconds: u8, operands: u16, second: u8, operand: u8, operation: Operation) -> Line
-    ensures { line_number_and_values result ≡ read_as (first_broken (bound_checks seconds operands second operand)) operation }
-{
-    if seconds <= second {
-        return Line::Refused(SECOND_BYTE_NOT_ALLOWED);
-    }
-    if operands <= operand as u16 {
-        return Line::Refused(OPERAND_NOT_ALLOWED);
-    }
-    Line::Accepted(operation)
-}
-
-// The second bytes of a jump are below this: GOTO has 0 there, the others a flag.
+// The second bytes of a jump are below this: GOTO has 0 there, the others a flag. The operation is a byte as the deck has it.
 fn jump_seconds(operation: u8) -> u8
     ensures { result ≡ (if nat_eq operation 24 then 1 else 4) }
 {
     if operation == 24 { 1 } else { 4 }
 }
 
-// "For a jump whose second byte is allowed, the label is looked up first, and a missing one ends the translation with 7."
-fn jump(deck: &[u8], operation: u8, second: u8, operand: u8) -> Line
-    requires { Complete deck.now × (24 ≤ operation) × (operation < 27) }
-    ensures { line_number_and_values result ≡ record_read deck.now operation second operand }
-{
-    if jump_seconds(operation) <= second {
-        return Line::Refused(SECOND_BYTE_NOT_ALLOWED);
+impl Record {
+    // A line that is no jump: its second byte and its operand are below the bounds of its row, or it is refused.
+    fn bounded(self, seconds: u8, operands: u16, means: Operation) -> Result<Operation, Refusal>
+        ensures { number_and_values result ≡ answered (first_broken (bound_checks seconds operands self.second self.operand)) means }
+    {
+        if seconds <= self.second {
+            return Err(Refusal::SecondByteNotAllowed);
+        }
+        if operands <= self.operand as u16 {
+            return Err(Refusal::OperandNotAllowed);
+        }
+        Ok(means)
     }
-    let found = look_up(deck, operand);
-    let Label::Line(line) = found else {
-        return Line::Refused(OPERAND_NOT_ALLOWED);
-    };
-    if operation == 24 {
-        return Line::Accepted(Operation::Goto { line });
+
+    // "For a jump whose second byte is allowed, the label is looked up first, and a missing one ends the translation with 7."
+    #[tactic(auto, unfolding(crate::specs::Operation::row_of, crate::specs::Operation::looked_up))]
+    fn jump(self, deck: CompleteDeck<'_>) -> Result<Operation, Refusal>
+        requires { (24 ≤ self.operation) × (self.operation < 27) }
+        ensures { number_and_values result ≡ record_read deck.entry.bytes.now self }
+    {
+        if jump_seconds(self.operation) <= self.second {
+            return Err(Refusal::SecondByteNotAllowed);
+        }
+        let Some(line) = deck.look_up(self.operand) else {
+            return Err(Refusal::OperandNotAllowed);
+        };
+        let flag = self.second;
+        match self.operation {
+            24 => Ok(Operation::Goto { line }),
+            25 => Ok(Operation::JumpIf { flag, line }),
+            _ => Ok(Operation::JumpUnless { flag, line }),
+        }
     }
-    if operation == 25 {
-        return Line::Accepted(Operation::JumpIf { flag: second, line });
+
+    // The table of operations, row by row.
+    #[tactic(auto, unfolding(crate::specs::Operation::row_of))]
+    fn read(self, deck: CompleteDeck<'_>) -> Result<Operation, Refusal>
+        ensures { number_and_values result ≡ record_read deck.entry.bytes.now self }
+    {
+        match self.operation {
+            0..=15 => {
+                let cell = DataAddress(self.operand);
+                let means = Operation::M {
+                    d: self.second,
+                    mode: self.operation,
+                    cell,
+                };
+                self.bounded(2, 16, means)
+            }
+            16..=23 => {
+                let means = Operation::I {
+                    mode: self.operation - 16,
+                    immediate: self.operand,
+                };
+                self.bounded(1, 256, means)
+            }
+            24..=26 => self.jump(deck),
+            27 => self.bounded(1, 1, Operation::Nop),
+            _ => Err(Refusal::OperationAbove27),
+        }
     }
-    Line::Accepted(Operation::JumpUnless { flag: second, line })
 }
 
-// The table of operations, row by row.
-fn read(deck: &[u8], operation: u8, second: u8, operand: u8) -> Line
-    requires { Complete deck.now }
-    ensures { line_number_and_values result ≡ record_read deck.now operation second operand }
-{
-    if operation < 16 {
-        let cell = DataAddress(operand);
-        return bounded(
-            2,
-            16,
-            second,
-            operand,
-            Operation::M {
-                d: second,
-                mode: operation,
-                cell,
-            },
-        );
+impl CompleteDeck<'_> {
+    // A line, or the first rule that it breaks.
+    #[tactic(auto, unfolding(crate::specs::Operation::operation_at, crate::specs::Records::line_refusal))]
+    pub(crate) fn read_line(self, line: u16) -> Result<Operation, Refusal>
+        requires { line < line_count self.bytes.now }
+        ensures { number_and_values result ≡ answered (line_refusal self.entry.bytes.now line) (operation_at self.entry.bytes.now line) }
+    {
+        self.record(line).read(self)
     }
-    if operation < 24 {
-        return bounded(
-            1,
-            256,
-            second,
-            operand,
-            Operation::I {
-                mode: operation - 16,
-                immediate: operand,
-            },
-        );
-    }
-    if operation < 27 {
-        return jump(deck, operation, second, operand);
-    }
-    if operation == 27 {
-        return bounded(1, 1, second, operand, Operation::Nop);
-    }
-    Line::Refused(OPERATION_ABOVE_27)
 }
 
-// A line of a deck that has all its lines.
-pub(crate) fn read_line(deck: &[u8], line: u16) -> Line
-    requires { Complete deck.now × (line < line_count deck.now) }
-    ensures { line_number_and_values result ≡ read_as (line_refusal deck.now line) (operation_at deck.now line) }
-{
-    let place = record_at(deck, line);
-    read(deck, deck[place], deck[place + 1], deck[place + 2])
-}
-
-// A line of an accepted deck: none of them is refused, so the `else` is never taken.
-pub(crate) fn operation_at(deck: &[u8], line: u16) -> Operation
-    requires { (deck_refusal deck.now ≡ accepted) × (line < line_count deck.now) }
-    ensures { result ≡ operation_at deck.now line }
-{
-    let read = read_line(deck, line);
-    let Line::Accepted(operation) = read else {
-        return Operation::Nop;
-    };
-    operation
+impl AcceptedDeck<'_> {
+    // A line: none of an accepted deck is refused.
+    #[tactic(auto, using(crate::proofs::Sound::sound, chip_core::proofs::Answered::is_ok))]
+    pub(crate) fn operation_at(self, line: u16) -> Operation
+        requires { line < line_count self.bytes.now }
+        ensures { result ≡ operation_at self.entry.bytes.now line }
+    {
+        self.complete().read_line(line).unwrap()
+    }
 }

@@ -1,25 +1,23 @@
 // The listing program: a deck on standard input, its listing on standard output.
 #![tactic(auto)]
 
-use deck::listing::listing;
+use deck::check::MOST_BYTES;
+use deck::listing::{LONGEST_TEXT, listing};
 use reading::read_full;
 use std::io;
 
-// "at most 1,282 bytes (more cannot alter the answer)": one more than the longest deck, 1 + 2 * 255 + 2 + 3 * 256.
-const MOST: usize = 1282;
-
-// `words 256` and 256 lines of seven bytes.
-const LONGEST: usize = 1802;
-
-fn list(rt: &impl Print, deck: &[u8], text: &mut [u8]) -> io::Result<()> {
-    let listed = listing(deck, text);
-    let count = listed.count;
-    rt.write_all(&text[..count])
+// Every deck has a text, and each fits: no listing is refused. `listing` writes into memory that it is lent, and answers the count (`ListingPromise`).
+fn list(rt: &impl Print, deck: &[u8]) -> io::Result<()> {
+    let mut text = [0; LONGEST_TEXT];
+    match listing(deck, &mut text) {
+        Ok(count) => rt.write_all(&text[..count]),
+        Err(_) => Ok(()),
+    }
 }
 
 fn main(rt: HostRuntime) -> io::Result<()> {
-    let mut input = [0u8; MOST];
-    let mut text = [0u8; LONGEST];
+    // `read_full` reads into memory that it is lent, and answers the count (`ReadFullPromise`).
+    let mut input = [0; MOST_BYTES];
     let count = read_full(&mut rt.reader(), &mut input)?;
-    list(&rt, &input[..count], &mut text)
+    list(&rt, &input[..count])
 }

@@ -32,7 +32,7 @@ answered asked p =
     ran_as p (lines_of p asked start) (clocks_of p asked start) (after_lines p asked start)
 
 pub example_run : answered 9 (program example)
-    ≡ record { refusal = accepted; lines = 7; clocks = 27; acc = 0; flags = 8; position = 3; pc = program_address 4 }
+    ≡ record { lines = 7; clocks = 27; acc = 0; flags = 8; position = 3; pc = program_address 4 }
 unfolding address line_step line_executed line_tally operation_at row_of effect flag table unit_result unit_flags
 example_run = refl
 

@@ -1,11 +1,9 @@
 -- The starred rows of document 01's "Numbers to meet", one table under one statement: each is the answer that the function's promise
 -- asks for, since the definitions compute to it.
 -- Assumes nothing.
-use Rattle.std.proofs.Common.{ℕ, List, [], ◌∷◌, refl}
-use Rattle.chip_core.specs.Refusal.{accepted}
+use Rattle.std.proofs.Common.{ℕ, List, [], ◌∷◌, refl, Ok}
 use Rattle.chip_core.specs.Unit.{computed, computed_as, table, unit_result, unit_flags, UnitPromise}
 use Rattle.chip_core.specs.Word.{decoded, instruction_at, program_address, flag_o, flag_z, DecodePromise}
-use Rattle.chip_core.specs.declared.word.Decoded.{Decoded}
 use Rattle.chip_core.specs.declared.word.Instruction.TheVariants.{JumpIf}
 use Rattle.chip_core.proofs.Finite.{All, ◌&◌}
 
@@ -16,8 +14,8 @@ pub data Row : Type 0 where
   jump : (word f target : ℕ) → Row
 
 abbrev pub Met : Row → Type 0
-Met (unit mode a b before result after) = UnitPromise mode a b before (computed_as accepted result after)
-Met (jump word f target) = DecodePromise word (Decoded.Accepted (JumpIf f (program_address target)))
+Met (unit mode a b before result after) = UnitPromise mode a b before (Ok (computed_as result after))
+Met (jump word f target) = DecodePromise word (Ok (JumpIf f (program_address target)))
 
 abbrev pub starred : List Row
 starred =

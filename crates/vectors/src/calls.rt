@@ -1,217 +1,123 @@
 // Calls on both sides of each rule of "Instruction, clock and run: 11, 10, 12, 13, and for the instruction 33 last", and of a row's 10 and 13.
-use super::text::{print, print_decimal, print_hex, print_long};
+use super::answer::{NO_ROW, parts};
 use super::trace::print_row;
 use chip_core::address::ProgramAddress;
 use chip_core::clock::{clock, instruction, run};
 use chip_core::control::{Stage, row};
-use chip_core::machine::{Clocked, Machine};
-use chip_core::refusal::ACCEPTED;
+use chip_core::machine::Machine;
+use chip_core::refusal::Refusal;
 use std::io;
 
 pub(crate) fn print_rows(rt: &impl Print) -> io::Result<()> {
-    print_row_of(rt, 0x0FFF, 2, 0x0F)?;
-    print_row_of(rt, 0x1000, 2, 0x0F)?;
-    print_row_of(rt, 0x0FFF, 2, 0x10)?;
-    print_row_of(rt, 0x1000, 0, 0x10)?;
-    print_row_of(rt, 0x0704, 2, 0x08)?;
-    print_row_of(rt, 0x0704, 2, 0x07)?;
-    print_row_of(rt, 0x0210, 2, 0x00)?;
-    print_row_of(rt, 0x0310, 2, 0x00)?;
-    print_row_of(rt, 0x0210, 1, 0x00)
-}
-
-fn print_row_of(rt: &impl Print, word: u16, stage: u8, sr: u8) -> io::Result<()> {
-    let answer = row(word, stage_at(stage), sr);
-    print(rt, b"row ")?;
-    print_hex(rt, word as u32, 4)?;
-    print(rt, b", ")?;
-    print_decimal(rt, stage)?;
-    print(rt, b", ")?;
-    print_hex(rt, sr as u32, 2)?;
-    print(rt, b" -> ")?;
-    print_decimal(rt, answer.refusal)?;
-    print(rt, b", ")?;
-    print_row(rt, answer.row, b", ")?;
-    print(rt, b"\n")
-}
-
-// 0 FETCH, 1 DECODE, 2 EXECUTE
-pub(crate) fn stage_at(number: u8) -> Stage {
-    match number {
-        0 => Stage::Fetch,
-        1 => Stage::Decode,
-        _ => Stage::Execute,
+    for (word, stage, sr) in [
+        (0x0FFF, Stage::Execute, 0x0F),
+        (0x1000, Stage::Execute, 0x0F),
+        (0x0FFF, Stage::Execute, 0x10),
+        (0x1000, Stage::Fetch, 0x10),
+        (0x0704, Stage::Execute, 0x08),
+        (0x0704, Stage::Execute, 0x07),
+        (0x0210, Stage::Execute, 0x00),
+        (0x0310, Stage::Execute, 0x00),
+        (0x0210, Stage::Decode, 0x00),
+    ] {
+        let (refusal, row) = parts(row(word, stage, sr), NO_ROW);
+        print!(rt; "row {word:04x}, {}, {sr:02x} -> {refusal}, ", stage as u8)?;
+        print_row(rt, row, ", ")?;
     }
+    Ok(())
 }
 
-pub(crate) fn stage_number(stage: Stage) -> u8 {
-    match stage {
-        Stage::Fetch => 0,
-        Stage::Decode => 1,
-        Stage::Execute => 2,
-    }
-}
-
-// The words of the image and the last of them, the cells; SR, IR and stage.
-pub(crate) fn print_calls(rt: &impl Print) -> io::Result<()> {
-    print_call(rt, 256, 0x0FFF, 16, machine_of(0x0F, 0x0FFF, 0))?;
-    print_call(rt, 257, 0x0FFF, 16, machine_of(0x0F, 0x0FFF, 0))?;
-    print_call(rt, 257, 0x1000, 15, machine_of(0x10, 0x1000, 1))?;
-    print_call(rt, 256, 0x1000, 15, machine_of(0x10, 0x1000, 1))?;
-    print_call(rt, 256, 0x0FFF, 15, machine_of(0x10, 0x1000, 1))?;
-    print_call(rt, 256, 0x0FFF, 17, machine_of(0x00, 0x0000, 0))?;
-    print_call(rt, 256, 0x0FFF, 16, machine_of(0x10, 0x0000, 1))?;
-    print_call(rt, 256, 0x0FFF, 16, machine_of(0x0F, 0x1000, 2))?;
-    print_call(rt, 256, 0x0FFF, 16, machine_of(0x0F, 0x0FFF, 1))?;
-    print_call(rt, 256, 0x0FFF, 16, machine_of(0x0F, 0x0FFF, 2))?;
-    print_call(rt, 0, 0x0000, 16, machine_of(0x00, 0x0000, 0))?;
-    print_call(rt, 1, 0x1000, 16, machine_of(0x00, 0x0000, 0))
-}
-
-fn machine_of(sr: u8, ir: u16, stage: u8) -> Machine {
-    Machine {
-        pc: ProgramAddress(0x07),
-        ir,
-        dr: 0x21,
-        acc: 0x43,
-        sr,
-        stage: stage_at(stage),
-    }
-}
-
-fn print_call(
-    rt: &impl Print,
-    words: u16,
-    last: u16,
-    count: u8,
-    machine: Machine,
-) -> io::Result<()> {
-    print_case(rt, words, last, count, machine)?;
-    let mut image: [u16; 257] = [0; 257];
-    write_last(&mut image, words as usize, last);
-    let mut cells: [u8; 17] = [0; 17];
-    print_part(
-        rt,
-        &image,
-        words as usize,
-        &mut cells,
-        count as usize,
-        machine,
-    )?;
-    print(rt, b"\n")
-}
-
-fn write_last(image: &mut [u16], words: usize, last: u16) {
-    if 0 < words {
-        if words <= image.len() {
-            image[words - 1] = last;
-        }
-    }
-}
-
-fn print_case(
-    rt: &impl Print,
-    words: u16,
-    last: u16,
-    count: u8,
-    machine: Machine,
-) -> io::Result<()> {
-    print_long(rt, words as u64)?;
-    print(rt, b" words, last ")?;
-    print_hex(rt, last as u32, 4)?;
-    print(rt, b", ")?;
-    print_decimal(rt, count)?;
-    print(rt, b" cells, sr ")?;
-    print_hex(rt, machine.sr as u32, 2)?;
-    print(rt, b", ir ")?;
-    print_hex(rt, machine.ir as u32, 4)?;
-    print(rt, b", stage ")?;
-    let stage = machine.stage;
-    print_decimal(rt, stage_number(stage))
-}
-
-fn print_part(
-    rt: &impl Print,
-    image: &[u16],
+// A call: the words of the image and the last of them, the count of cells, and the machine.
+#[derive(Clone, Copy)]
+struct Call {
     words: usize,
-    cells: &mut [u8],
+    last: u16,
     count: usize,
     machine: Machine,
-) -> io::Result<()> {
-    if words <= image.len() {
-        if count <= cells.len() {
-            print_answers(rt, &image[..words], &mut cells[..count], machine)?;
+}
+
+impl Call {
+    fn new(words: usize, last: u16, count: usize, sr: u8, ir: u16, stage: Stage) -> Call {
+        let machine = Machine {
+            pc: ProgramAddress(0x07),
+            ir,
+            dr: 0x21,
+            acc: 0x43,
+            sr,
+            stage,
+        };
+        Call {
+            words,
+            last,
+            count,
+            machine,
         }
+    }
+}
+
+pub(crate) fn print_calls(rt: &impl Print) -> io::Result<()> {
+    for call in [
+        Call::new(256, 0x0FFF, 16, 0x0F, 0x0FFF, Stage::Fetch),
+        Call::new(257, 0x0FFF, 16, 0x0F, 0x0FFF, Stage::Fetch),
+        Call::new(257, 0x1000, 15, 0x10, 0x1000, Stage::Decode),
+        Call::new(256, 0x1000, 15, 0x10, 0x1000, Stage::Decode),
+        Call::new(256, 0x0FFF, 15, 0x10, 0x1000, Stage::Decode),
+        Call::new(256, 0x0FFF, 17, 0x00, 0x0000, Stage::Fetch),
+        Call::new(256, 0x0FFF, 16, 0x10, 0x0000, Stage::Decode),
+        Call::new(256, 0x0FFF, 16, 0x0F, 0x1000, Stage::Execute),
+        Call::new(256, 0x0FFF, 16, 0x0F, 0x0FFF, Stage::Decode),
+        Call::new(256, 0x0FFF, 16, 0x0F, 0x0FFF, Stage::Execute),
+        Call::new(0, 0x0000, 16, 0x00, 0x0000, Stage::Fetch),
+        Call::new(1, 0x1000, 16, 0x00, 0x0000, Stage::Fetch),
+    ] {
+        print_call(rt, call)?;
     }
     Ok(())
 }
 
-fn print_answers(
-    rt: &impl Print,
-    image: &[u16],
-    cells: &mut [u8],
-    machine: Machine,
-) -> io::Result<()> {
-    print_clock(rt, image, cells, machine)?;
-    print_instruction(rt, image, cells, machine)?;
-    print_run(rt, image, cells, machine)
+fn print_call(rt: &impl Print, call: Call) -> io::Result<()> {
+    let Call {
+        words,
+        last,
+        count,
+        machine,
+    } = call;
+    print!(rt;
+        "{words} words, last {last:04x}, {count} cells, sr {:02x}, ir {:04x}, stage {}: clock ",
+        machine.sr, machine.ir, machine.stage as u8
+    )?;
+    // The most that a call has are 257 words and 17 cells.
+    let mut image = [0; 257];
+    let image = &mut image[..words.min(257)];
+    if let Some(word) = image.last_mut() {
+        *word = last;
+    }
+    let mut cells = [0; 17];
+    let cells = &mut cells[..count.min(17)];
+    print_answer(rt, cells, |cells| clock(machine, image, cells))?;
+    print!(rt; ", instruction ")?;
+    print_answer(rt, cells, |cells| instruction(machine, image, cells))?;
+    print!(rt; ", run ")?;
+    print_answer(rt, cells, |cells| run(machine, image, cells, 4))?;
+    println!(rt; "")
 }
 
-fn print_clock(
-    rt: &impl Print,
-    image: &[u16],
-    cells: &mut [u8],
-    machine: Machine,
-) -> io::Result<()> {
-    fill_5a(cells);
-    let answer = clock(machine, image, cells);
-    print(rt, b": clock ")?;
-    print_answer(rt, answer, machine, cells)
-}
-
-fn print_instruction(
-    rt: &impl Print,
-    image: &[u16],
-    cells: &mut [u8],
-    machine: Machine,
-) -> io::Result<()> {
-    fill_5a(cells);
-    let answer = instruction(machine, image, cells);
-    print(rt, b", instruction ")?;
-    print_answer(rt, answer, machine, cells)
-}
-
-fn print_run(rt: &impl Print, image: &[u16], cells: &mut [u8], machine: Machine) -> io::Result<()> {
-    fill_5a(cells);
-    let answer = run(machine, image, cells, 4);
-    print(rt, b", run ")?;
-    print_answer(rt, answer, machine, cells)
-}
-
-fn fill_5a(cells: &mut [u8]) {
+// The number, and whether a refused call kept the cells.
+fn print_answer<F>(rt: &impl Print, cells: &mut [u8], call: F) -> io::Result<()>
+where
+    F: FnOnce(&mut [u8]) -> Result<Machine, Refusal>,
+    requires { F.IsAlwaysCallable call }
+{
     cells.fill(0x5A);
-}
-
-// The number, and whether a refused call kept the machine and the cells.
-fn print_answer(rt: &impl Print, answer: Clocked, before: Machine, cells: &[u8]) -> io::Result<()> {
-    print_decimal(rt, answer.refusal)?;
-    if answer.refusal != ACCEPTED {
-        if same(answer.machine, before) & all_5a(cells) {
-            print(rt, b" kept")?;
-        } else {
-            print(rt, b" CHANGED")?;
+    match call(cells) {
+        Ok(_) => print!(rt; "0"),
+        Err(refusal) => {
+            let kept = cells.iter().all(|&cell| cell == 0x5A);
+            print!(rt;
+                "{} {}",
+                refusal.number(),
+                if kept { "kept" } else { "CHANGED" }
+            )
         }
     }
-    Ok(())
-}
-
-fn same(a: Machine, b: Machine) -> bool {
-    let a_stage = a.stage;
-    let b_stage = b.stage;
-    let registers = (a.pc.0 == b.pc.0) & (a.ir == b.ir) & (a.dr == b.dr) & (a.acc == b.acc);
-    registers & (a.sr == b.sr) & (stage_number(a_stage) == stage_number(b_stage))
-}
-
-fn all_5a(cells: &[u8]) -> bool {
-    cells.iter().all(|cell| *cell == 0x5A)
 }

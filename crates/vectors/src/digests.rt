@@ -1,44 +1,60 @@
 // Digests of the core's answers: the unit in each mode and the decoder on each word, and the encoder on fields in and out of range.
-use super::fold::START;
-use super::sweep::{Sweep, swept};
-use super::text::{print, print_hex};
+use super::fold::Digest;
+use super::instructions::{goto, i, jump_if, m};
+use chip_core::unit::unit;
+use chip_core::word::{Instruction, decode, encode};
 use std::io;
 
 pub(crate) fn print_digests(rt: &impl Print) -> io::Result<()> {
-    print_modes(rt)?;
-    print_decoder(rt)?;
-    print_encoder(rt)
-}
-
-fn print_modes(rt: &impl Print) -> io::Result<()> {
     for mode in 0..16 {
-        print_mode(rt, mode)?;
+        let digest = of_mode(mode);
+        println!(rt; "digest of mode {mode:x}: {digest}")?;
     }
-    Ok(())
+    println!(rt; "digest of decode: {}", of_decoder())?;
+    println!(rt; "digest of encode: {}", of_encoder())
 }
 
-fn print_mode(rt: &impl Print, mode: u8) -> io::Result<()> {
-    print(rt, b"digest of mode ")?;
-    print_hex(rt, mode as u32, 1)?;
-    print_digest(rt, swept(START, Sweep::Unit { mode }, 65535))
+// Each a and b; SR is 0 and then 15.
+fn of_mode(mode: u8) -> Digest {
+    (0..=u16::MAX).fold(Digest::START, |digest, n| {
+        let [a, b] = n.to_be_bytes();
+        digest
+            .fold_computed(unit(mode, a, b, 0))
+            .fold_computed(unit(mode, a, b, 15))
+    })
 }
 
-fn print_decoder(rt: &impl Print) -> io::Result<()> {
-    print(rt, b"digest of decode")?;
-    print_digest(rt, swept(START, Sweep::Decode, 65535))
+fn of_decoder() -> Digest {
+    (0..=u16::MAX).fold(Digest::START, |digest, word| {
+        digest.fold_decoded(decode(word))
+    })
 }
 
-fn print_encoder(rt: &impl Print) -> io::Result<()> {
-    print(rt, b"digest of encode")?;
-    let after_s = swept(START, Sweep::S, 255);
-    let after_goto = swept(after_s, Sweep::Goto, 255);
-    let after_m = swept(after_goto, Sweep::M, 4095);
-    let after_jump = swept(after_m, Sweep::JumpIf, 255);
-    print_digest(rt, swept(after_jump, Sweep::I, 255))
-}
-
-pub(crate) fn print_digest(rt: &impl Print, digest: u32) -> io::Result<()> {
-    print(rt, b": ")?;
-    print_hex(rt, digest, 8)?;
-    print(rt, b"\n")
+// Each k and target, d below 4 with mode and cell below 32, and each flag and mode with the least and the most beside it.
+fn of_encoder() -> Digest {
+    let mut digest = Digest::START;
+    for k in 0..=u8::MAX {
+        digest = digest.fold_encoded(encode(Instruction::S { k }));
+    }
+    for target in 0..=u8::MAX {
+        digest = digest.fold_encoded(encode(goto(target)));
+    }
+    for d in 0..4 {
+        for mode in 0..32 {
+            for cell in 0..32 {
+                digest = digest.fold_encoded(encode(m(d, mode, cell)));
+            }
+        }
+    }
+    for flag in 0..=u8::MAX {
+        digest = digest
+            .fold_encoded(encode(jump_if(flag, 0)))
+            .fold_encoded(encode(jump_if(flag, 255)));
+    }
+    for mode in 0..=u8::MAX {
+        digest = digest
+            .fold_encoded(encode(i(mode, 0)))
+            .fold_encoded(encode(i(mode, 255)));
+    }
+    digest
 }

@@ -1,93 +1,43 @@
 // Decks made by rule. tests/decks.py has the same rules.
+ghost use Rattle.std.specs.Prelude.{◌≤◌};
 
-// One label, at line 0, and NOP lines, but the last line has this operation, on Z if it is a jump.
-pub(crate) fn fill_nops(deck: &mut [u8], lines: u16, last: u8) {
-    for place in 0..deck.len() {
-        deck[place] = nops_byte(place, deck.len(), lines, last);
-    }
-}
-
-fn nops_byte(place: usize, length: usize, lines: u16, last: u8) -> u8 {
-    if length <= place {
-        return 0;
-    }
-    match length - place {
-        3 => last,
-        2 => last_second(last),
-        1 => 0,
-        _ => nops_before(place, lines),
-    }
-}
-
-fn last_second(last: u8) -> u8 {
-    if last == 27 { 0 } else { 3 }
-}
-
-fn nops_before(place: usize, lines: u16) -> u8 {
-    match place {
-        0 => 1,
-        1 => 0,
-        2 => 0,
-        3 => (lines % 256) as u8,
-        4 => (lines / 256 % 256) as u8,
-        _ => if place % 3 == 2 { 27 } else { 0 },
-    }
+// One label, at line 0, and NOP lines, but this record for the last line: five bytes, and three for each line.
+pub(crate) fn nop_deck<const N: usize>(lines: u16, last: [u8; 3]) -> [u8; N]
+    requires { 8 ≤ N }
+{
+    let mut deck = [0; N];
+    let (head, records) = deck.split_first_chunk_mut().unwrap();
+    let [low, high] = lines.to_le_bytes();
+    *head = [1, 0, 0, low, high];
+    let (records, _) = records.as_chunks_mut();
+    records.fill([27, 0, 0]);
+    *records.last_mut().unwrap() = last;
+    deck
 }
 
 // Four labels and 64 lines, in which all operations come up.
-pub(crate) fn fill_mixed(deck: &mut [u8], number: usize) {
-    for place in 0..deck.len() {
-        deck[place] = mixed_byte(place, number);
+pub(crate) fn mixed_deck(number: u8) -> [u8; 203] {
+    let mut deck = [0; 203];
+    let (head, records) = deck.split_first_chunk_mut().unwrap();
+    let label = |label: u16| ((label * 13 + number as u16 * 7 + 5) % 64) as u8;
+    *head = [4, label(0), 0, label(1), 0, label(2), 0, label(3), 0, 64, 0];
+    let (records, _) = records.as_chunks_mut();
+    for (line, record) in (0..64).zip(records) {
+        *record = mixed_record(line, number);
     }
+    deck
 }
 
-fn mixed_byte(place: usize, number: usize) -> u8 {
-    if place < 11 {
-        return mixed_head(place, number % 12);
-    }
-    let record = place - 11;
-    let line = record / 3 % 64;
-    let operation = mixed_operation(line, number % 12);
-    match record % 3 {
-        0 => operation,
-        1 => mixed_second(operation, line, number % 12),
-        _ => mixed_operand(operation, line, number % 12),
-    }
-}
-
-fn mixed_head(place: usize, number: usize) -> u8 {
-    match place {
-        0 => 4,
-        1 => mixed_label(0, number),
-        3 => mixed_label(1, number),
-        5 => mixed_label(2, number),
-        7 => mixed_label(3, number),
-        9 => 64,
-        _ => 0,
-    }
-}
-
-fn mixed_label(label: usize, number: usize) -> u8 {
-    ((label % 4 * 13 + number % 12 * 7 + 5) % 64) as u8
-}
-
-fn mixed_operation(line: usize, number: usize) -> u8 {
-    ((line % 64 * 11 + number % 12 * 7) % 28) as u8
-}
-
-fn mixed_second(operation: u8, line: usize, number: usize) -> u8 {
-    match operation {
-        0..=15 => ((line % 64 + number % 12) % 2) as u8,
-        25..=26 => ((line % 64 * 3 + number % 12) % 4) as u8,
-        _ => 0,
-    }
-}
-
-fn mixed_operand(operation: u8, line: usize, number: usize) -> u8 {
-    match operation {
-        0..=15 => ((line % 64 * 5 + number % 12 * 3) % 16) as u8,
-        16..=23 => ((line % 64 * 37 + number % 12 * 91) % 256) as u8,
-        24..=26 => ((line % 64 + number % 12) % 4) as u8,
-        _ => 0,
-    }
+fn mixed_record(line: u8, number: u8) -> [u8; 3] {
+    let line = line as u16;
+    let number = number as u16;
+    let operation = (line * 11 + number * 7) % 28;
+    let (second, operand) = match operation {
+        0..=15 => ((line + number) % 2, (line * 5 + number * 3) % 16),
+        16..=23 => (0, (line * 37 + number * 91) % 256),
+        24 => (0, (line + number) % 4),
+        25..=26 => ((line * 3 + number) % 4, (line + number) % 4),
+        _ => (0, 0),
+    };
+    [operation as u8, second as u8, operand as u8]
 }

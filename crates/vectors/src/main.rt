@@ -2,17 +2,17 @@
 // holds what an independent model of document 01 prints.
 #![tactic(auto)]
 
+mod answer;
 mod calls;
 mod decks;
 mod digests;
 mod fold;
 mod generated;
+mod instructions;
 mod numbers;
 mod programs;
 mod refusals;
 mod states;
-mod sweep;
-mod text;
 mod trace;
 
 use std::io;

@@ -3,8 +3,8 @@ use Rattle.std.proofs.Common.{◌≡◌, ◌-◌, ◌≤◌, ◌||◌, ltb, leng
 use Rattle.chip_core.specs.Machine.{any_above_4095}
 use Rattle.chip_core.proofs.image.any_above_4095.Given as goal
 
-abbrev pub invariant-loop-i : goal.invariant-loop-i
-invariant-loop-i l = (l.i ≤ length l.image) × ((ltb 4095 l.largest || any_above_4095 (drop l.i l.image)) ≡ any_above_4095 l.image)
+abbrev pub invariant-loop-word : goal.invariant-loop-word
+invariant-loop-word l = (l.word-index ≤ length l.image) × ((ltb 4095 l.largest || any_above_4095 (drop l.word-index l.image)) ≡ any_above_4095 l.image)
 
-abbrev pub decreases-loop-i : goal.decreases-loop-i
-decreases-loop-i l = length l.image - l.i
+abbrev pub decreases-loop-word : goal.decreases-loop-word
+decreases-loop-word l = length l.image - l.word-index

@@ -11,7 +11,3 @@ no_bit f sr h s = rw (div-eq_of_lt (lt_of_lt_of_le s (pow_mono h)))
 
 pub returns-then-flag-gt7 : goal.returns-then-flag-gt7
 returns-then-flag-gt7 c = sym (no_bit c.args.flag c.args.sr c.if-flag-gt7.true (search rules))
-
-pub returns : goal.returns
-unfolding flag
-returns c = c.is_set.ensures

@@ -1,7 +1,6 @@
 -- `chip_core::word::word_of` meets its promise: it joins the fields that the definition adds up, each within its width (`fields_fit_as`).
 -- Assumes nothing.
 use Rattle.std.proofs.Common.{arith}
-use Rattle.chip_core.specs.Word.{word_of}
 use Rattle.chip_core.proofs.Range.{fields_fit_as}
 use Rattle.chip_core.proofs.word.word_of.Goals as goal
 
@@ -25,23 +24,3 @@ join-requires-in-I c = let h = fields_fit_as _ _ c.in-I.is c.requires in omega a
 
 pub join-requires-in-I-2 : goal.join-requires-in-I-2
 join-requires-in-I-2 c = let h = fields_fit_as _ _ c.in-I.is c.requires in omega arith
-
-pub returns-in-S : goal.returns-in-S
-unfolding word_of
-returns-in-S c = simp (c.in-S.is, c.join.ensures)
-
-pub returns-in-Goto : goal.returns-in-Goto
-unfolding word_of
-returns-in-Goto c = simp (c.in-Goto.is, c.join-in-Goto.ensures)
-
-pub returns-in-M : goal.returns-in-M
-unfolding word_of
-returns-in-M c = simp (c.in-M.is, c.join-in-M-3.ensures, c.join-in-M-2.ensures, c.join-in-M.ensures)
-
-pub returns-in-JumpIf : goal.returns-in-JumpIf
-unfolding word_of
-returns-in-JumpIf c = simp (c.in-JumpIf.is, c.join-in-JumpIf-2.ensures, c.join-in-JumpIf.ensures)
-
-pub returns-in-I : goal.returns-in-I
-unfolding word_of
-returns-in-I c = simp (c.in-I.is, c.join-in-I-2.ensures, c.join-in-I.ensures)

@@ -1,22 +1,13 @@
--- `deck::listing::put_word_lines` meets its promise: the lines of so many words stand in the output, and one more is the next (`next_line`).
+-- `deck::listing::put_word_lines` meets its promise: each line has seven bytes, so there is room for the next, and it comes after those before it (`next_line`).
 -- Assumes nothing.
-use Rattle.std.proofs.Common.{sym, refl, ◌∙◌, arith}
+use Rattle.std.proofs.Common.{length, ap, arith, length-append}
 use Rattle.deck.specs.Listing.{word_lines}
-use Rattle.deck.proofs.ListingText.{next_line}
-use Rattle.deck.proofs.Writing.{none}
+use Rattle.deck.proofs.ListingText.{lines_length}
 use Rattle.deck.proofs.listing.put_word_lines.Goals as goal
 
-pub loop-address-init : goal.loop-address-init
-unfolding word_lines
-loop-address-init c = (omega arith, omega arith, refl, sym (none c.args.place c.args.output.now))
-
-pub loop-address-preserved : goal.loop-address-preserved
-loop-address-preserved c =
-    let a = c.args in
+pub put_word_line-requires : goal.put_word_line-requires
+put_word_line-requires c =
+    let words = c.args.words.now in
+    let text = c.args.text.now in
     let l = c.loop-address in
-    let e = c.put_word_line-at.ensures in (
-      omega arith,
-      omega arith,
-      omega arith,
-      e.1 ∙ rw (l.invariant.1, l.invariant.3) (next_line a.place l.address a.words.now a.output.now (omega arith)),
-    )
+    omega (arith, ap length l.invariant, length-append text (word_lines words l.address), lines_length words l.address)
