@@ -24,7 +24,7 @@ pub struct Compared {
     pub difference: Option<Difference>,
 }
 
-// The image of an accepted deck, clocked from a fresh load.
+// The image of an accepted deck, clocked from a fresh load. It asks that the deck is accepted, since the type that says so is private to `deck`.
 fn clock_image(deck: &[u8], cells: &mut [u8], clocks: u64) -> Result<Machine, Refusal>
     requires { deck_refusal deck.now ≡ accepted }
     ensures { RunPromise clocks freshly_loaded (image (program deck.now)) cells.old result cells.new }

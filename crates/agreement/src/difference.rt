@@ -39,7 +39,7 @@ fn first_differing(cells: &[u8; 16], others: &[u8; 16]) -> Option<usize>
     ensures place { result ≡ first_differing cells.now others.now }
     ensures inside { IfSome result (λ place. place < 16) }
 {
-    // `zip` and `position` would say it in a line, but what they find was not proved to be the definition's.
+    // `zip` and `position` were tried, and the proof that they find what the definition does did not close.
     for (place, &cell) in cells.iter().enumerate() {
         if cell != others[place] {
             return Some(place);
@@ -85,7 +85,7 @@ pub(crate) fn first_difference(
             by_clocks: machine.sr,
         });
     }
-    if machine.pc.0 != ran.pc.0 {
+    if machine.pc != ran.pc {
         return Some(Difference::Pc {
             by_lines: ran.pc.0,
             by_clocks: machine.pc.0,

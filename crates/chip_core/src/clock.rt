@@ -11,7 +11,8 @@ use super::edge::one_clock;
 use super::machine::{Machine, check_call};
 use super::refusal::Refusal;
 
-// So many clocks of a machine that is not refused. The image is not scanned again.
+// So many clocks of a machine that is not refused. The image is not scanned again. That SR is below 16 is asked here and of a clock, and is not in the type: `Machine`
+// is public and has any number there, which is refused with 13 (`RunPromise`).
 fn clocked(machine: Machine, image: &[u16], cells: &mut [u8; 16], clocks: u64) -> Machine
     requires { machine.sr < 16 }
     ensures { state result cells.new ≡ iterate (clock (memory_of image.now)) clocks (state machine cells.old) }

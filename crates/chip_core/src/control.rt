@@ -154,11 +154,9 @@ pub(crate) fn control_row(word: u16, stage: Stage, sr: u8) -> ControlRow
     let entry = entry_at(stage, bits(11, 8, word));
     let instruction = instruction_at(word);
     match stage {
-        Stage::Fetch => row_with(entry, 0, false),
-        Stage::Decode => row_with(entry, 0, false),
+        Stage::Fetch | Stage::Decode => row_with(entry, 0, false),
         Stage::Execute => match instruction {
-            Instruction::S { .. } => row_with(entry, 0, false),
-            Instruction::Goto { .. } => row_with(entry, 0, false),
+            Instruction::S { .. } | Instruction::Goto { .. } => row_with(entry, 0, false),
             Instruction::M { mode, .. } => row_with(entry, mode, false),
             Instruction::JumpIf { flag, .. } => {
                 row_with(entry, 0, is_set(flag as u16, sr as u16))

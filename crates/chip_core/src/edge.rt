@@ -10,7 +10,7 @@ use super::address::{DataAddress, ProgramAddress};
 use super::control::{ControlRow, Enable, Stage, control_row};
 use super::image::word_at;
 use super::machine::Machine;
-use super::unit::unit;
+use super::unit::compute;
 use super::word::{bits, is_set};
 
 // "in that order, then FETCH again"
@@ -109,7 +109,7 @@ pub(crate) fn one_clock(machine: Machine, image: &[u16], cells: &mut [u8; 16]) -
     let row = control_row(machine.ir, machine.stage, machine.sr);
     let cell = read_cell(machine.ir, &*cells);
     let b = operand(row, machine.ir, machine.dr);
-    let out = unit(row.mode, machine.acc, b, machine.sr).unwrap();
+    let out = compute(row.mode, machine.acc, b, machine.sr);
     let after = Machine {
         pc: pc_after(row, machine),
         ir: ir_after(row, machine, image),

@@ -21,8 +21,7 @@ pub(crate) fn word_at(image: &[u16], address: ProgramAddress) -> u16
     image.get(address.0 as usize).copied().unwrap_or(undrawn())
 }
 
-// Whether some word is above 4095: the largest word so far goes along, and one test stands at the end. That is no `any`, which tests each word and stops at one,
-// so that the words can be scanned several at a time.
+// Whether some word is above 4095: the largest word so far goes along, and one test stands at the end. An `any` was tried, and its proof did not close by itself.
 pub(crate) fn any_above_4095(image: &[u16]) -> bool
     ensures { result ≡ any_above_4095 image.now }
 {

@@ -1,6 +1,6 @@
 // The arithmetic unit: a row of document 01's table for each mode, and the flags that the row sets merged into SR once.
 ghost use Rattle.std.specs.Prelude.{◌≡◌, ◌+◌, ◌-◌, ◌%◌, ◌<◌, ◌+ℤ◌, ◌-ℤ◌, nat_lt};
-ghost use Rattle.chip_core.specs.Unit.{signed, outside, rotated_left, filled_right, one_if, packed, if_shifted, row, row_at, merged, UnitPromise};
+ghost use Rattle.chip_core.specs.Unit.{signed, outside, rotated_left, filled_right, one_if, packed, if_shifted, row, row_at, merged, unit_result, unit_flags, computed_as, UnitPromise};
 
 use super::refusal::Refusal;
 use super::word::is_set;
@@ -150,8 +150,29 @@ fn merge(sets: u8, given: u8, before: u8) -> u8
     given & sets | before & 15 - sets
 }
 
-// Result and flags of a mode on a and b, after the flags in SR. Refuses 14: mode above 15; then 13: SR above 15. So mode and SR are numbers (`UnitPromise`).
-#[tactic(auto, using(crate::proofs::Flags::masked), unfolding(crate::specs::Unit::computed, crate::specs::Unit::unit_result, crate::specs::Unit::unit_flags))]
+// Result and flags of a mode on a and b, after the flags in SR. The mode is a number below 16, as the table's definitions take it (`unit_result`): an enum would be
+// made only to be matched once.
+#[tactic(auto, using(crate::proofs::Flags::masked), unfolding(crate::specs::Unit::unit_result, crate::specs::Unit::unit_flags))]
+pub(crate) fn compute(mode: u8, a: u8, b: u8, sr: u8) -> Computed
+    requires { (mode < 16) × (sr < 16) }
+    ensures { result ≡ computed_as (unit_result mode a b) (unit_flags mode a b sr) }
+{
+    let row = row_at(mode, a, b);
+    let result = row.result;
+    let given = pack(
+        result == 0,
+        row.carry,
+        is_set(7, result as u16),
+        row.overflow,
+    );
+    Computed {
+        result,
+        flags: merge(row.sets, given, sr),
+    }
+}
+
+// The unit, for any mode and SR. Refuses 14: mode above 15; then 13: SR above 15. So mode and SR are numbers (`UnitPromise`).
+#[tactic(auto, unfolding(crate::specs::Unit::computed))]
 pub fn unit(mode: u8, a: u8, b: u8, sr: u8) -> Result<Computed, Refusal>
     ensures { UnitPromise mode a b sr result }
 {
@@ -161,16 +182,5 @@ pub fn unit(mode: u8, a: u8, b: u8, sr: u8) -> Result<Computed, Refusal>
     if 15 < sr {
         return Err(Refusal::RegisterOutOfRange);
     }
-    let row = row_at(mode, a, b);
-    let result = row.result;
-    let given = pack(
-        result == 0,
-        row.carry,
-        is_set(7, result as u16),
-        row.overflow,
-    );
-    Ok(Computed {
-        result,
-        flags: merge(row.sets, given, sr),
-    })
+    Ok(compute(mode, a, b, sr))
 }

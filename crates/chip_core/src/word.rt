@@ -138,7 +138,8 @@ pub fn encode(instruction: Instruction) -> Result<u16, Refusal>
     Ok(word_of(instruction))
 }
 
-// Whether a flag of SR is 1: 0 = O, 1 = S, 2 = C, 3 = Z. A flag above 7 is no bit of a byte, and is 0.
+// Whether a flag of SR is 1: 0 = O, 1 = S, 2 = C, 3 = Z. A flag above 7 is no bit of a byte, and is 0: the promise is of
+// every number (`FlagPromise`).
 #[tactic(auto, unfolding(crate::specs::Word::flag))]
 pub fn is_flag_set(flag: u8, sr: u8) -> bool
     ensures { FlagPromise flag sr result }

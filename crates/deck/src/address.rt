@@ -34,7 +34,7 @@ impl CompleteDeck<'_> {
     }
 }
 
-// An accepted deck answers as the complete one that it is.
+// An accepted deck answers as the complete one that it is: that spares its users a `complete()`, and writes nothing twice.
 impl AcceptedDeck<'_> {
     // The address of a line, or of the position past the last line.
     pub(crate) fn address_of(self, line: u16) -> u16

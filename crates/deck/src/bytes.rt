@@ -95,7 +95,7 @@ impl CompleteDeck<'_> {
     }
 }
 
-// An accepted deck answers as the complete one that it is.
+// An accepted deck answers as the complete one that it is: that spares its users a `complete()`, and writes nothing twice.
 impl AcceptedDeck<'_> {
     // L
     pub(crate) fn line_count(self) -> u16

@@ -23,7 +23,8 @@ pub struct LinesRun {
     pub pc: ProgramAddress,
 }
 
-// Acc and flags. The cells stand in the caller's memory.
+// Acc and flags. The cells stand in the caller's memory. That flags are four bits is asked of two functions and kept by the loop: a ghost field was tried, and the
+// loop had to say it all the same.
 #[derive(Clone, Copy, Debug, PartialEq, Eq)]
 struct Registers {
     acc: u8,

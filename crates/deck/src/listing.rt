@@ -11,7 +11,8 @@ use chip_core::refusal::Refusal;
 pub const LONGEST_TEXT: usize = 10 + 256 * 7;
 
 // A digit, in capitals where it is above 9. Digits are made here, and not by `write!`, since the promise says each byte (`ListingPromise`) and no clause of std says
-// what `write!` writes. Each function below asks for the room that its own part takes.
+// what `write!` writes. Each function below asks for the room that its own part takes,
+// which is another number each time, so that no type can say it.
 fn digit(number: u16) -> u8
     requires { number < 16 }
     ensures { result ≡ digit number }

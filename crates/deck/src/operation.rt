@@ -1,7 +1,8 @@
 // The operations of document 01's table.
 use chip_core::address::DataAddress;
 
-// A line's operation, with its label looked up: a jump has the line that it jumps to. Its fields are numbers as an instruction's are, which they become.
+// A line's operation, with its label looked up: a jump has the line that it jumps to. Its fields are
+// numbers, since the definition makes it of any numbers (`row_of`), also for a line that is refused, and since they go on as an instruction's.
 #[derive(Clone, Copy, Debug, PartialEq, Eq)]
 pub(crate) enum Operation {
     M { d: u8, mode: u8, cell: DataAddress },

@@ -14,7 +14,8 @@ use chip_core::address::ProgramAddress;
 use chip_core::refusal::Refusal;
 use chip_core::word::{Instruction, encode};
 
-// Writes one word, and gives the place after it.
+// Writes one word, and gives the place after it. Places and addresses are below 256 where there is a word, and 256 is the one past the last: so they are wider than a
+// `ProgramAddress`, and each function asks for what it needs.
 #[tactic(auto, using(chip_core::proofs::Answered::encoded_in_range, chip_core::proofs::Answered::no_zero))]
 fn write(instruction: Instruction, place: u16, output: &mut [u16]) -> u16
     requires { (place < 256) × (place < length output.old) × (in_range instruction ≡ true) }

@@ -11,7 +11,7 @@ pub fn read_full<R: Read>(input: &mut R, buffer: &mut [u8]) -> io::Result<usize>
     ensures { ReadFullPromise (R.remaining input.old) (R.remaining input.new) result buffer.new }
 {
     // Neither a `for` nor std's `read_exact` or `read_to_end`: how many reads it takes is not known, and what those two have read where the input ends or fails
-    // is not said.
+    // is not said (`ReadFullPromise`).
     let mut count = 0;
     while count < buffer.len() {
         let came = input.read(&mut buffer[count..])?;

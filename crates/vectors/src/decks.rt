@@ -2,10 +2,12 @@
 use super::answer::{NO_LINES, parts};
 use super::fold::Digest;
 use super::generated::{mixed_deck, nop_deck};
+use chip_core::refusal::Refusal;
 use deck::check::check;
 use deck::lines::run_lines;
 use deck::listing::listing;
 use deck::translate::translate;
+use std::fmt::Display;
 use std::{array, io};
 
 const SMALL: [(&str, &[u8]); 24] = [
@@ -151,13 +153,28 @@ fn print_cells(rt: &impl Print, deck: &[u8], cells: &mut [u8]) -> io::Result<()>
 }
 
 fn print_translation(rt: &impl Print, deck: &[u8], words: &mut [u16]) -> io::Result<()> {
-    let (refusal, count) = parts(translate(deck, words), 0);
-    print!(rt; "translate {refusal} {count} {}", Digest::of(words))
+    let answer = translate(deck, words);
+    print_written(rt, "translate", answer, words)
 }
 
 fn print_listing(rt: &impl Print, deck: &[u8], text: &mut [u8]) -> io::Result<()> {
-    let (refusal, count) = parts(listing(deck, text), 0);
-    print!(rt; "listing {refusal} {count} {}", Digest::of(text))
+    let answer = listing(deck, text);
+    print_written(rt, "listing", answer, text)
+}
+
+// What a call that writes answered, the count or its refusal, and what it left.
+fn print_written<C, T>(
+    rt: &impl Print,
+    name: &str,
+    answer: Result<C, Refusal>,
+    left: &[T],
+) -> io::Result<()>
+where
+    C: Copy + Default + Display + Drop,
+    T: Copy + Into<u32>,
+{
+    let (refusal, count) = parts(answer, C::default());
+    print!(rt; "{name} {refusal} {count} {}", Digest::of(left))
 }
 
 fn print_lines(rt: &impl Print, deck: &[u8], asked: u32) -> io::Result<()> {

@@ -14,7 +14,7 @@ pub(crate) fn print_digests(rt: &impl Print) -> io::Result<()> {
     println!(rt; "digest of encode: {}", of_encoder())
 }
 
-// Each a and b; SR is 0 and then 15.
+// Each a and b; SR is 0 and then 15. A mode is a number, as `unit` takes it.
 fn of_mode(mode: u8) -> Digest {
     (0..=u16::MAX).fold(Digest::START, |digest, n| {
         let [a, b] = n.to_be_bytes();

@@ -1,7 +1,7 @@
 -- `chip_core::control::control_row` meets its promise: enables and selects are those of bits 11..8 alone (`made`), and each arm gives the mode, and whether
 -- a jump is taken.
 -- Assumes nothing.
-use Rattle.std.proofs.Common.{ℕ, false, sym, ap, ◌∙◌, arith}
+use Rattle.std.proofs.Common.{ℕ, false, inl, inr, sym, ap, ◌∙◌, arith}
 use Rattle.chip_core.specs.Control.{row_with, control_row}
 use Rattle.chip_core.specs.Rule.{act_of}
 use Rattle.chip_core.specs.Word.{instruction_at}
@@ -13,30 +13,6 @@ pub is_set-requires : goal.is_set-requires
 is_set-requires c =
     let f = cut_fits_as _ _ (sym c.instruction_at-instruction.ensures ∙ c.in-JumpIf.is) in
     omega arith
-
-pub returns-in-Fetch : goal.returns-in-Fetch
-unfolding control_row
-returns-in-Fetch c =
-    let m = made c.args.word c.args.stage _ _ 0 false _ c.row_with.ensures c.bits.ensures c.entry_at-entry.ensures in
-    rw (m, c.in-Fetch.is)
-
-pub returns-in-Decode : goal.returns-in-Decode
-unfolding control_row
-returns-in-Decode c =
-    let m = made c.args.word c.args.stage _ _ 0 false _ c.row_with-in-Decode.ensures c.bits.ensures c.entry_at-entry.ensures in
-    rw (m, c.in-Decode.is) (decode_row_lem (act_of (instruction_at c.args.word)))
-
-pub returns-in-S : goal.returns-in-S
-unfolding control_row
-returns-in-S c =
-    let m = made c.args.word c.args.stage _ _ 0 false _ c.row_with-in-S.ensures c.bits.ensures c.entry_at-entry.ensures in
-    rw (m, c.in-Execute.is, sym c.instruction_at-instruction.ensures, c.in-S.is)
-
-pub returns-in-Goto : goal.returns-in-Goto
-unfolding control_row
-returns-in-Goto c =
-    let m = made c.args.word c.args.stage _ _ 0 false _ c.row_with-in-Goto.ensures c.bits.ensures c.entry_at-entry.ensures in
-    rw (m, c.in-Execute.is, sym c.instruction_at-instruction.ensures, c.in-Goto.is)
 
 pub returns-in-M : goal.returns-in-M
 unfolding control_row
@@ -57,3 +33,23 @@ unfolding control_row
 returns-in-I c =
     let m = made c.args.word c.args.stage _ _ c.in-I.mode false _ c.row_with-in-I.ensures c.bits.ensures c.entry_at-entry.ensures in
     rw (m, c.in-Execute.is, sym c.instruction_at-instruction.ensures, c.in-I.is)
+
+pub returns-in-Fetch : goal.returns-in-Fetch
+unfolding control_row
+returns-in-Fetch c =
+    let m = made c.args.word c.args.stage _ _ 0 false _ c.row_with.ensures c.bits.ensures c.entry_at-entry.ensures in
+    elim c.in-Fetch.is [
+      | inl fetch ↦ rw (m, fetch)
+      | inr decode ↦ rw (m, decode) (decode_row_lem (act_of (instruction_at c.args.word)))
+    ]
+
+pub returns-in-S : goal.returns-in-S
+unfolding control_row
+returns-in-S c =
+    let m = made c.args.word c.args.stage _ _ 0 false _ c.row_with-in-S.ensures c.bits.ensures c.entry_at-entry.ensures in
+    let execute = c.in-Execute.is in
+    let is = sym c.instruction_at-instruction.ensures in
+    elim c.in-S.is [
+      | inl s ↦ rw (m, execute, is, s.1)
+      | inr goto ↦ rw (m, execute, is, goto.1)
+    ]
