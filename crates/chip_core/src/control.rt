@@ -157,11 +157,12 @@ pub(crate) fn control_row(word: u16, stage: Stage, sr: u8) -> ControlRow
         Stage::Fetch | Stage::Decode => row_with(entry, 0, false),
         Stage::Execute => match instruction {
             Instruction::S { .. } | Instruction::Goto { .. } => row_with(entry, 0, false),
-            Instruction::M { mode, .. } => row_with(entry, mode, false),
+            Instruction::M { mode, .. } | Instruction::I { mode, .. } => {
+                row_with(entry, mode, false)
+            }
             Instruction::JumpIf { flag, .. } => {
                 row_with(entry, 0, is_set(flag as u16, sr as u16))
             }
-            Instruction::I { mode, .. } => row_with(entry, mode, false),
         },
     }
 }

@@ -18,7 +18,12 @@ pub returns-in-M : goal.returns-in-M
 unfolding control_row
 returns-in-M c =
     let m = made c.args.word c.args.stage _ _ c.in-M.mode false _ c.row_with-in-M.ensures c.bits.ensures c.entry_at-entry.ensures in
-    rw (m, c.in-Execute.is, sym c.instruction_at-instruction.ensures, c.in-M.is)
+    let execute = c.in-Execute.is in
+    let is = sym c.instruction_at-instruction.ensures in
+    elim c.in-M.is [
+      | inl cell ↦ rw (m, execute, is, cell.2)
+      | inr immediate ↦ rw (m, execute, is, immediate.1)
+    ]
 
 pub returns-in-JumpIf : goal.returns-in-JumpIf
 unfolding control_row
@@ -27,12 +32,6 @@ returns-in-JumpIf c =
     let m = made c.args.word c.args.stage _ _ 0 c.is_set.result _ c.row_with-in-JumpIf.ensures c.bits.ensures c.entry_at-entry.ensures in
     rw (m, c.in-Execute.is, is, c.is_set.ensures)
     (ap (λ (n : ℕ). row_with 0b100000000 0 n 0) (inverted c.in-JumpIf.flag c.args.sr (cut_fits_as _ _ is).0))
-
-pub returns-in-I : goal.returns-in-I
-unfolding control_row
-returns-in-I c =
-    let m = made c.args.word c.args.stage _ _ c.in-I.mode false _ c.row_with-in-I.ensures c.bits.ensures c.entry_at-entry.ensures in
-    rw (m, c.in-Execute.is, sym c.instruction_at-instruction.ensures, c.in-I.is)
 
 pub returns-in-Fetch : goal.returns-in-Fetch
 unfolding control_row
