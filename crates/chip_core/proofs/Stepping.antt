@@ -1,14 +1,14 @@
 -- Clocking a machine call by call is a run: no accepted call leaves a machine that the next call refuses, and a refused one leaves it as it was.
 -- Assumes nothing.
 use Rattle.std.proofs.Common.{◌≡◌, ◌≢◌, ℕ, zero, suc, ◌<◌, Bool, true, false, eqb, ltb, List, [], ◌∷◌, length, get_or, refl, ap, arith, lit<, ltb-false, le-ltb, eq-eqb, eqb-true, sym, ◌∙◌, true≢false, Result, Ok, Err}
-use Rattle.chip_core.specs.Clock.{ir_after, clock, clock_refusal, ClockPromise, RunPromise}
+use Rattle.chip_core.specs.Clock.{ir_after, clock, clock_refusal, ClockPromise, ClockInPlacePromise, RunPromise}
 use Rattle.chip_core.specs.Control.{enabled, ir_e, control_row}
 use Rattle.chip_core.specs.Iterate.{iterate}
-use Rattle.chip_core.specs.Machine.{State, state, undrawn, memory_of, any_above_4095, leaves, Answers}
+use Rattle.chip_core.specs.Machine.{State, state, undrawn, memory_of, any_above_4095, leaves, Answers, AnswersInPlace}
 use Rattle.chip_core.specs.Refusal.{accepted, NumberAndValues, refusal_number}
 use Rattle.chip_core.specs.declared.machine.Machine.{Machine}
 use Rattle.chip_core.specs.declared.refusal.Refusal.{Refusal}
-use Rattle.chip_core.proofs.Answered.{is_ok}
+use Rattle.chip_core.proofs.Answered.{is_ok, no_zero}
 use Rattle.chip_core.proofs.Choice.{either}
 use Rattle.chip_core.proofs.Refusals.{neither, Ready, ready}
 use Rattle.chip_core.proofs.Iteration.{iterate_last}
@@ -94,3 +94,33 @@ module _ (image : List ℕ) where
           let f = fine reached (accepted_after n (state machine cells) (ready machine image cells z)) in
           rw (z, iterate_last (clock (memory_of image)) n (state machine cells)) (rw (m, p.1, z, f) at q)
       go false e = rw e (rw (m, p.1, e, e) at q)
+
+-- A CLOCK OF A MACHINE THAT IS LENT IS A CLOCK BY VALUE: what its answer and the machine that it leaves are by value,
+abbrev pub by_value : Machine → Result Unit Refusal → Result Machine Refusal
+by_value left (Ok x) = Ok left
+by_value left (Err refusal) = Err refusal
+
+lent_as_given : (number : ℕ) (before after : State) (answer : Result Unit Refusal) (left : Machine) (cells : List ℕ)
+    → AnswersInPlace number before after answer left cells
+    → Answers number before after (by_value left answer) cells × (left ≡ machine_left before.machine (by_value left answer))
+lent_as_given number before after (Ok x) left cells p =
+    let z : number ≡ accepted = sym p.0 in
+    let stands : left ≡ after.machine = (rw z at p.1) in
+    ((rw (z, stands) refl, p.2), refl)
+lent_as_given number before after (Err refusal) left cells p =
+    let kept : left ≡ before.machine = (rw (sym p.0, no_zero refusal) at p.1) in
+    ((rw (sym p.0, no_zero refusal) refl, p.2), kept)
+
+-- is what `clock` promises of the same machine, image and cells, and the machine that is left is the one that its caller has,
+pub in_place_by_value : (machine : Machine) (image cells : List ℕ) (answer : Result Unit Refusal) (left : Machine) (after : List ℕ)
+    → ClockInPlacePromise machine image cells answer left after
+    → ClockPromise machine image cells (by_value left answer) after × (left ≡ machine_left machine (by_value left answer))
+in_place_by_value machine image cells answer left after p = lent_as_given _ _ _ answer left after p
+
+-- so that a clock more where the machine stands is a run of one more
+pub one_more_in_place : (image : List ℕ) (n : ℕ) (machine : Machine) (cells : List ℕ) (r : Result Machine Refusal) (left : List ℕ)
+    (answer : Result Unit Refusal) (after : Machine) (right : List ℕ)
+    → RunPromise n machine image cells r left → ClockInPlacePromise (machine_left machine r) image left answer after right
+    → RunPromise (suc n) machine image cells (by_value after answer) right
+one_more_in_place image n machine cells r left answer after right p q =
+    one_more image n machine cells r (by_value after answer) left right p (in_place_by_value (machine_left machine r) image left answer after right q).0

@@ -98,5 +98,4 @@ ClockPromise machine image cells =
 -- in its place, and the cells.
 abbrev pub ClockInPlacePromise : Machine → List ℕ → List ℕ → Result Unit Refusal → Machine → List ℕ → Type 0
 ClockInPlacePromise machine image cells =
-    AnswersInPlace (clock_refusal machine image (length cells)) (state machine cells)
-    (clock (memory_of image) (state machine cells))
+    AnswersInPlace (clock_refusal machine image (length cells)) (state machine cells) (clock (memory_of image) (state machine cells))
