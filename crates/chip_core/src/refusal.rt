@@ -1,6 +1,6 @@
 // Document 01's refusals, each with its number: this is their one place in the code, as specs/Refusal.antt is among the definitions.
-ghost use Rattle.std.specs.Prelude.{◌≡◌};
-ghost use Rattle.chip_core.specs.Refusal.{number_of};
+ghost use Rattle.std.specs.Prelude.{◌≡◌, Some};
+ghost use Rattle.chip_core.specs.Refusal.{number_of, printed};
 
 use std::error::Error;
 use std::fmt;
@@ -50,6 +50,8 @@ impl Refusal {
 }
 
 impl fmt::Display for Refusal {
+    ghost output = { λ refusal. Some (printed refusal) };
+
     fn fmt<W: fmt::Write>(&self, f: &mut fmt::Formatter<W>) -> fmt::Result {
         write!(f, "refused {}", self.number())
     }
