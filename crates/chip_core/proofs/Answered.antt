@@ -1,7 +1,7 @@
 -- An answer is known by its number and values: a refusal is known by its number, which is never that of an accepted call. And what the encoder and the unit
 -- answer where nothing is refused.
 -- Assumes nothing.
-use Rattle.std.proofs.Common.{◌≡◌, ◌≢◌, ℕ, ◌<◌, true, false, cond, eqb, ne_eqb, sym, ap, refl, ◌∙◌, arith, le-ltb, Result, Ok, Err}
+use Rattle.std.proofs.Common.{◌≡◌, ◌≢◌, ℕ, ◌<◌, true, false, cond, eqb, ne_eqb, get_or, sym, ap, refl, ◌∙◌, arith, le-ltb, Result, Ok, Err}
 use Rattle.chip_core.specs.Refusal.{accepted, number_of, NumberAndValues, number_and_values, refusal_number, answered}
 use Rattle.chip_core.specs.Unit.{unit_result, unit_flags, computed, computed_as}
 use Rattle.chip_core.specs.Word.{in_range, word_of, encoded}
@@ -79,6 +79,15 @@ refused_alike (Err m) (Err n) e = ap Err (by_number m n e)
 -- an answer that is accepted with a value
 pub is_ok : {A : Type 0} (r : Result A Refusal) (x : A) → number_and_values r ≡ answered accepted x → r ≡ Ok x
 is_ok r x e = same r (Ok x) e
+
+-- and what such an answer tells: an accepted one that its number is that of an accepted call, and its value, and a refused one its number
+pub accepted_tells : {A : Type 0} (number : ℕ) (x y : A) → number_and_values (Ok y) ≡ answered number x → (number ≡ accepted) × (y ≡ x)
+accepted_tells {A = A} number x y e =
+    let z : number ≡ accepted = sym (ap (λ (a : NumberAndValues A). a.number) e) in
+    (z, ap (λ (a : NumberAndValues A). get_or a.values 0 y) (rw z at e))
+
+pub refused_tells : {A : Type 0} (number : ℕ) (x : A) (refusal : Refusal) → number_and_values {A = A} (Err refusal) ≡ answered number x → number_of refusal ≡ number
+refused_tells {A = A} number x refusal e = ap (λ (a : NumberAndValues A). a.number) e
 
 -- an instruction in range is encoded as its word
 pub encoded_in_range : (i : Instruction) → in_range i ≡ true → encoded i ≡ answered accepted (word_of i)

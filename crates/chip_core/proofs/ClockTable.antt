@@ -1,11 +1,12 @@
 -- Laws of the clock table. Enables and selects of a row go by its stage and bits 11..8 of its word, but for a jump that is taken, so that one computed
 -- test of 3 times 16 entries settles the constant table; and the unit is never given a mode above 15.
 -- Assumes nothing.
-use Rattle.std.proofs.Common.{◌≡◌, ℕ, zero, suc, ◌+◌, ◌-◌, ◌*◌, ◌/◌, ◌%◌, ◌^◌, ◌<◌, Bool, true, false, cond, not, ◌&&◌, ◌||◌, T, eqb, List, get_or, refl, ◌∙◌, arith, lit<, eqb→eq}
+use Rattle.std.proofs.Common.{◌≡◌, ℕ, zero, suc, ◌+◌, ◌-◌, ◌*◌, ◌/◌, ◌%◌, ◌^◌, ◌<◌, Bool, true, false, cond, not, ◌&&◌, ◌||◌, T, eqb, List, get_or, refl, ap, ◌∙◌, arith, lit<, eqb→eq}
 use Rattle.chip_core.specs.Clock.{operand, result_out, flags_out}
 use Rattle.chip_core.specs.Control.{stage_number, row_with, enabled, acc_e, sr_e, ir_e, dr_e, dmem_we, decode_row, enables_of_m, row_of, control_row}
 use Rattle.chip_core.specs.Rule.{Act, Pass, Go, OnCell, GoIf, OnImmediate, act_of}
-use Rattle.chip_core.specs.Unit.{one_if, unit_result, unit_flags, computed_as}
+use Rattle.chip_core.specs.Refusal.{accepted, answered}
+use Rattle.chip_core.specs.Unit.{one_if, unit_result, unit_flags, computed, computed_as}
 use Rattle.chip_core.specs.Word.{bits, is_set, instruction_at, flag}
 use Rattle.chip_core.specs.declared.control.ControlRow.{ControlRow}
 use Rattle.chip_core.specs.declared.control.Stage.{Stage}
@@ -13,6 +14,7 @@ use Rattle.chip_core.specs.declared.control.Stage.TheVariants.{Fetch, Decode, Ex
 use Rattle.chip_core.specs.declared.machine.Machine.{Machine}
 use Rattle.chip_core.specs.declared.word.Instruction.{Instruction}
 use Rattle.chip_core.specs.declared.word.Instruction.TheVariants.{S, Goto, M, JumpIf, I}
+use Rattle.chip_core.proofs.Answered.{computed_in_range}
 use Rattle.chip_core.proofs.Finite.{left as left-of, right as right_of, each, all_pairs, each_pair}
 use Rattle.chip_core.proofs.Kind.{Kind, is_s, is_goto, is_m, is_jump_if, is_i, kind, at_s, at_goto, at_m, at_jump_if, at_i}
 use Rattle.chip_core.proofs.Range.{FieldsFit, cut_fits}
@@ -126,6 +128,13 @@ pub unit_out : (m : Machine) (r : ControlRow) (b : ℕ) → b ≡ operand r m.ir
     → computed_as (unit_result r.mode m.acc b) (unit_flags r.mode m.acc b m.sr) ≡ computed_as (result_out r m) (flags_out r m)
 unfolding result_out flags_out
 unit_out m r b f = rw f
+
+-- and so the unit, asked with SR in range, refuses nothing in a clock, and answers just that
+pub unit_accepts : (m : Machine) (r : ControlRow) (b : ℕ) → m.sr < 16 → r ≡ control_row m.ir m.stage m.sr → b ≡ operand r m.ir m.dr
+    → computed r.mode m.acc b m.sr ≡ answered accepted (computed_as (result_out r m) (flags_out r m))
+unit_accepts m r b h e f =
+    let mode : r.mode < 16 = rw e (mode_lt m.ir m.stage m.sr) in
+    computed_in_range r.mode m.acc b m.sr mode h ∙ ap (answered accepted) (unit_out m r b f)
 
 -- a device that is read or written is enabled: nothing loads IR without PMem, DR without DMem, Acc or SR without the unit, or writes a cell without
 -- DMem, and DR is never loaded while a cell is written

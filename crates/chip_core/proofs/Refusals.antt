@@ -56,7 +56,7 @@ module _ (machine : Machine) (image : List ℕ) (count : ℕ) where
   fetch_not_next_lem e = rw e (tried_then (machine_checks machine image count) (check true fetch_not_next ∷ []) (refl & refl & refl & refl & tt))
 
 -- a call that is refused answers no value, and leaves the cells
-refused : (number : ℕ) (before after : State) → eqb number accepted ≡ false
+pub refused : (number : ℕ) (before after : State) → eqb number accepted ≡ false
     → (record { number = number; values = [] } ≡ answered number after.machine) × (before.cells ≡ (leaves number before after).cells)
 refused number before after e = rw e (refl, refl)
 
