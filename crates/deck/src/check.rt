@@ -66,24 +66,24 @@ fn check_words(deck: CompleteDeck<'_>) -> Result<(), Refusal>
     Ok(())
 }
 
-// A deck that breaks no rule, or the first one that it breaks.
+// Whether a deck is accepted, or else the first rule that it breaks: 1 to 8.
 #[tactic(auto, using(crate::proofs::Parts::in_order, crate::proofs::Sound::complete, chip_core::proofs::Answered::no_zero))]
+pub fn check(deck: &[u8]) -> Result<(), Refusal>
+    ensures { CheckPromise deck.now result }
+{
+    check_layout(deck)?;
+    let deck = CompleteDeck { bytes: deck };
+    check_labels(deck)?;
+    check_lines(deck)?;
+    check_words(deck)
+}
+
+// A deck that breaks no rule, or the first one that it breaks.
+#[tactic(auto, using(crate::proofs::Sound::sound))]
 pub(crate) fn accept(bytes: &[u8]) -> Result<AcceptedDeck<'_>, Refusal>
     ensures number { refusal_number result ≡ deck_refusal bytes.now }
     ensures same { IfOk result (λ deck. deck.bytes.now ≡ bytes.now) }
 {
-    check_layout(bytes)?;
-    let deck = CompleteDeck { bytes };
-    check_labels(deck)?;
-    check_lines(deck)?;
-    check_words(deck)?;
+    check(bytes)?;
     Ok(AcceptedDeck { bytes })
-}
-
-// Whether a deck is accepted, or else the first rule that it breaks: 1 to 8.
-pub fn check(deck: &[u8]) -> Result<(), Refusal>
-    ensures { CheckPromise deck.now result }
-{
-    accept(deck)?;
-    Ok(())
 }
