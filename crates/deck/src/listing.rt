@@ -66,41 +66,39 @@ fn put_word_lines(words: &[u16], text: &mut Text)
     }
 }
 
-// The text for an accepted deck.
+// The text for an accepted deck, put into an empty one.
 #[tactic(auto, using(crate::proofs::ListingText::decimal_length), unfolding(crate::specs::Listing::listing_of))]
-fn text_of_words(words: &[u16]) -> Text
-    requires { length words.now ≤ 256 }
-    ensures { result ≡ listing_of accepted words.now }
+fn put_words(words: &[u16], text: &mut Text)
+    requires { (length words.now ≤ 256) × (text.old ≡ []) }
+    ensures { text.new ≡ listing_of accepted words.now }
 {
-    let mut text = Text::new();
     text.put(b"words ");
-    put_decimal(words.len() as u16, &mut text);
+    put_decimal(words.len() as u16, text);
     text.push(b'\n');
-    put_word_lines(words, &mut text);
-    text
+    put_word_lines(words, text);
 }
 
-// The text for a refused deck.
+// The text for a refused deck, put into an empty one.
 #[tactic(auto, unfolding(crate::specs::Listing::listing_of))]
-fn text_of_refusal(refusal: Refusal) -> Text
-    ensures { result ≡ listing_of (number_of refusal) [] }
+fn put_refusal(refusal: Refusal, text: &mut Text)
+    requires { text.old ≡ [] }
+    ensures { text.new ≡ listing_of (number_of refusal) [] }
 {
-    let mut text = Text::new();
     text.put(b"refused ");
-    put_decimal(u16::from(refusal.number()), &mut text);
+    put_decimal(u16::from(refusal.number()), text);
     text.push(b'\n');
-    text
 }
 
-// The text for a deck.
-fn text_of(deck: &[u8]) -> Text
-    ensures { result ≡ listing_text deck.now }
+// The text for a deck, put into an empty one: a text that is answered by value would be copied, all of its memory at each return.
+fn put_listing(deck: &[u8], text: &mut Text)
+    requires { text.old ≡ [] }
+    ensures { text.new ≡ listing_text deck.now }
 {
     // The translator writes into memory that it is lent, and answers the count (`TranslatePromise`).
     let mut image = [0u16; 256];
     match translate(deck, &mut image) {
-        Ok(words) => text_of_words(&image[..words as usize]),
-        Err(refusal) => text_of_refusal(refusal),
+        Ok(words) => put_words(&image[..words as usize], text),
+        Err(refusal) => put_refusal(refusal, text),
     }
 }
 
@@ -108,7 +106,8 @@ fn text_of(deck: &[u8]) -> Text
 pub fn listing(deck: &[u8], output: &mut [u8]) -> Result<usize, Refusal>
     ensures { ListingPromise deck.now output.old result output.new }
 {
-    let text = text_of(deck);
+    let mut text = Text::new();
+    put_listing(deck, &mut text);
     let bytes = text.as_bytes();
     let count = bytes.len();
     if output.len() < count {

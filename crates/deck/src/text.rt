@@ -4,12 +4,13 @@ ghost use Rattle.std.specs.Prelude.{◌≡◌, ℕ, ◌+◌, ◌<◌, ◌≤◌,
 use super::listing::LONGEST_TEXT;
 use std::marker::Model;
 
+// The length stands first: a copy of the bytes, of any count, then can't read it, so that it need not be stored after each line.
 // Contracts see the bytes that the text has come to, as a list. Memory and length stand here and nowhere else: a `Vec` would want memory from the heap, which the
 // library takes none of.
 #[derive(Drop)]
 pub(crate) struct Text {
-    bytes: [u8; LONGEST_TEXT],
     length: usize,
+    bytes: [u8; LONGEST_TEXT],
 }
 
 impl Model for Text {
@@ -25,8 +26,8 @@ impl Text {
         ensures { result ≡ [] }
     {
         Text {
-            bytes: [0; LONGEST_TEXT],
             length: 0,
+            bytes: [0; LONGEST_TEXT],
         }
     }
 
