@@ -53,7 +53,7 @@ impl Record {
         }
     }
 
-    // The table of operations, row by row.
+    // The table of operations, row by row. NOP is what is left, and stands last: a 27 by itself would be asked for before all else, at each line that is read.
     #[tactic(auto, unfolding(crate::specs::Operation::row_of))]
     fn read(self, deck: CompleteDeck<'_>) -> Result<Operation, Refusal>
         ensures { number_and_values result ≡ record_read deck.entry.bytes.now self }
@@ -76,8 +76,8 @@ impl Record {
                 self.bounded(1, 256, means)
             }
             24..=26 => self.jump(deck),
-            27 => self.bounded(1, 1, Operation::Nop),
-            _ => Err(Refusal::OperationAbove27),
+            28.. => Err(Refusal::OperationAbove27),
+            _ => self.bounded(1, 1, Operation::Nop),
         }
     }
 }
