@@ -8,6 +8,7 @@ pub mod ListingDeck
 pub mod ListingText
 pub mod OneLine
 pub mod Parts
+pub mod Rows
 pub mod Runs
 pub mod Sound
 pub mod Writing

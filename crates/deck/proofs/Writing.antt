@@ -1,9 +1,13 @@
 -- Items written one after the other: what stands before the place and after the last item stays as it was.
 -- Assumes nothing.
-use Rattle.std.proofs.Common.{◌≡◌, ℕ, ◌+◌, ◌<◌, ◌≤◌, List, [], ◌∷◌, ◌++◌, length, take, drop, set, sym, ◌∙◌, append_assoc, le_trans, le-add_right, add_assoc, add-one, length-append, length-take-le, drop-drop, take_at}
+use Rattle.std.proofs.Common.{◌≡◌, ℕ, ◌+◌, ◌<◌, ◌≤◌, List, [], ◌∷◌, ◌++◌, length, take, drop, set, sym, ap, ◌∙◌, append_assoc, append-nil, le_trans, le-add_right, add-zero, add_assoc, zero-add, add-one, arith, length-append, length-drop, take-append-drop, length-take-le, drop-drop, take_at}
 use lib.Seq.{take-append_seam, drop-append-add, append_snoc, set_split}
 use Rattle.deck.specs.Translate.{starting_with}
 use Rattle.deck.specs.Private.{overwritten}
+
+-- nothing written
+pub none : (place : ℕ) (output : List ℕ) → overwritten place [] output ≡ output
+none place output = rw (add-zero, append-nil) (take-append-drop place output)
 
 -- one item
 pub one : (place item : ℕ) (output : List ℕ) → place < length output → set output place item ≡ overwritten place (item ∷ []) output
@@ -11,6 +15,13 @@ one place item output h = set_split output place item h ∙ rw (add-one, append_
 
 head_length : (place : ℕ) (items output : List ℕ) → place ≤ length output → length (take place output ++ items) ≡ place + length items
 head_length place items output h = length-append (take place output) items ∙ rw (length-take-le place output h)
+
+-- what is written into an output leaves its length
+pub same_length : (place : ℕ) (items output : List ℕ) → place + length items ≤ length output → length (overwritten place items output) ≡ length output
+same_length place items output h =
+    let inside : place ≤ length output = omega arith in
+    length-append (take place output ++ items) (drop (place + length items) output)
+    ∙ rw (head_length place items output inside, length-drop) (omega arith)
 
 past : (front rest : List ℕ) (n m : ℕ) → length front ≡ n → drop (n + m) (front ++ rest) ≡ drop m rest
 past front rest n m e = rw (sym e) (drop-append-add front rest m)
@@ -30,7 +41,13 @@ more place items others output h =
       add_assoc,
     )
 
--- and from the start
+-- from the start
+pub from_start : (items output : List ℕ) → overwritten 0 items output ≡ starting_with items output
+from_start items output = rw zero-add
+
+pub start_length : (items output : List ℕ) → length items ≤ length output → length (starting_with items output) ≡ length output
+start_length items output h = ap length (sym (from_start items output)) ∙ same_length 0 items output (rw zero-add h)
+
 pub more_at_start : (items others output : List ℕ) → length items ≤ length output
     → overwritten (length items) others (starting_with items output) ≡ starting_with (items ++ others) output
 more_at_start items others output h = rw (take-append_seam, drop-append-add, drop-drop, length-append)

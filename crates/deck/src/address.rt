@@ -8,7 +8,7 @@ use super::decks::{AcceptedDeck, CompleteDeck};
 
 impl CompleteDeck<'_> {
     // The "words" column: every line has one word, but operation 26 two.
-    #[tactic(auto, unfolding(crate::specs::Operation::operation_at, crate::specs::Operation::row_of))]
+    #[tactic(auto, using(crate::proofs::Rows::words_of), unfolding(crate::specs::Operation::operation_at))]
     fn words_at(self, line: u16) -> u16
         requires { line < line_count self.bytes.now }
         ensures { result ≡ words (operation_at self.entry.bytes.now line) }
