@@ -55,6 +55,14 @@ module _ (machine : Machine) (image : List ℕ) (count : ℕ) where
   unfolding instruction_refusal clock_refusal
   fetch_not_next_lem e = rw e (tried_then (machine_checks machine image count) (check true fetch_not_next ∷ []) (refl & refl & refl & refl & tt))
 
+-- and that is never 0
+pub never_accepted : (n : ℕ) → eqb (cond (eqb n accepted) fetch_not_next n) accepted ≡ false
+never_accepted n = go (eqb n accepted) refl
+  where
+    go : (t : Bool) → eqb n accepted ≡ t → eqb (cond t fetch_not_next n) accepted ≡ false
+    go true e = refl
+    go false e = e
+
 -- a call that is refused answers no value, and leaves the cells
 pub refused : (number : ℕ) (before after : State) → eqb number accepted ≡ false
     → (record { number = number; values = [] } ≡ answered number after.machine) × (before.cells ≡ (leaves number before after).cells)

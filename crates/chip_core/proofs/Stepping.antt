@@ -5,10 +5,10 @@ use Rattle.chip_core.specs.Clock.{ir_after, clock, clock_refusal, ClockPromise, 
 use Rattle.chip_core.specs.Control.{enabled, ir_e, control_row}
 use Rattle.chip_core.specs.Iterate.{iterate}
 use Rattle.chip_core.specs.Machine.{State, state, undrawn, memory_of, any_above_4095, leaves, Answers, AnswersInPlace}
-use Rattle.chip_core.specs.Refusal.{accepted, NumberAndValues, refusal_number}
+use Rattle.chip_core.specs.Refusal.{accepted, NumberAndValues, refusal_number, number_of}
 use Rattle.chip_core.specs.declared.machine.Machine.{Machine}
 use Rattle.chip_core.specs.declared.refusal.Refusal.{Refusal}
-use Rattle.chip_core.proofs.Answered.{is_ok, no_zero}
+use Rattle.chip_core.proofs.Answered.{is_ok, no_zero, not_zero, refused_tells}
 use Rattle.chip_core.proofs.Choice.{either}
 use Rattle.chip_core.proofs.Refusals.{neither, Ready, ready}
 use Rattle.chip_core.proofs.Iteration.{iterate_last}
@@ -117,10 +117,23 @@ pub in_place_by_value : (machine : Machine) (image cells : List ℕ) (answer : R
     → ClockPromise machine image cells (by_value left answer) after × (left ≡ machine_left machine (by_value left answer))
 in_place_by_value machine image cells answer left after p = lent_as_given _ _ _ answer left after p
 
--- so that a clock more where the machine stands is a run of one more
+stands_on : (image : List ℕ) (n : ℕ) (machine : Machine) (cells : List ℕ) (r : Result Machine Refusal) (left : List ℕ)
+    (answer : Result Unit Refusal) (after : Machine) (right : List ℕ)
+    → RunPromise n machine image cells r left → ClockInPlacePromise (machine_left machine r) image left answer after right
+    → after ≡ machine_left machine (by_value after answer)
+stands_on image n machine cells r left (Ok x) after right p q = refl
+stands_on image n machine cells r left (Err refusal) after right p q =
+    let clocked = in_place_by_value (machine_left machine r) image left (Err refusal) after right q in
+    let more = one_more image n machine cells r (Err refusal) left right p clocked.0 in
+    let number : number_of refusal ≡ clock_refusal machine image (length cells) = refused_tells _ _ refusal more.0 in
+    let same : refusal_number r ≡ clock_refusal machine image (length cells) = ap (λ (a : NumberAndValues Machine). a.number) p.0 in
+    clocked.1 ∙ stands machine r (λ z. not_zero refusal (number ∙ sym same ∙ z))
+
+-- so that a clock more where the machine stands is a run of one more, whose caller has the machine that stands: the next clock goes on from it
 pub one_more_in_place : (image : List ℕ) (n : ℕ) (machine : Machine) (cells : List ℕ) (r : Result Machine Refusal) (left : List ℕ)
     (answer : Result Unit Refusal) (after : Machine) (right : List ℕ)
     → RunPromise n machine image cells r left → ClockInPlacePromise (machine_left machine r) image left answer after right
-    → RunPromise (suc n) machine image cells (by_value after answer) right
+    → RunPromise (suc n) machine image cells (by_value after answer) right × (after ≡ machine_left machine (by_value after answer))
 one_more_in_place image n machine cells r left answer after right p q =
-    one_more image n machine cells r (by_value after answer) left right p (in_place_by_value (machine_left machine r) image left answer after right q).0
+    let clocked = in_place_by_value (machine_left machine r) image left answer after right q in
+    (one_more image n machine cells r (by_value after answer) left right p clocked.0, stands_on image n machine cells r left answer after right p q)
