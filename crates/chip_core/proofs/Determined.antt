@@ -6,7 +6,7 @@ use Rattle.chip_core.specs.Clock.{ClockPromise, ClockInPlacePromise, RunPromise}
 use Rattle.chip_core.specs.Control.{RowPromise}
 use Rattle.chip_core.specs.Instruction.{InstructionPromise}
 use Rattle.chip_core.specs.Machine.{State, FreshPromise, Answers}
-use Rattle.chip_core.specs.Refusal.{number_of}
+use Rattle.chip_core.specs.Refusal.{NumberPromise}
 use Rattle.chip_core.specs.Unit.{UnitPromise}
 use Rattle.chip_core.specs.Word.{FlagPromise, DecodePromise, EncodePromise}
 use Rattle.chip_core.specs.declared.control.ControlRow.{ControlRow}
@@ -18,7 +18,7 @@ use Rattle.chip_core.specs.declared.word.Instruction.{Instruction}
 use Rattle.chip_core.proofs.Answered.{same, refused_alike}
 
 -- the number of a refusal
-pub number_determined : (refusal : Refusal) (r s : ℕ) → r ≡ number_of refusal → s ≡ number_of refusal → r ≡ s
+pub number_determined : (refusal : Refusal) (r s : ℕ) → NumberPromise refusal r → NumberPromise refusal s → r ≡ s
 number_determined refusal r s p q = p ∙ sym q
 
 pub decode_determined : (word : ℕ) (r s : Result Instruction Refusal) → DecodePromise word r → DecodePromise word s → r ≡ s

@@ -1,6 +1,6 @@
 -- Document 01's "Refusal numbers" by name, and which number a call gives where several rules are broken.
 -- Assumes nothing.
-use Rattle.std.specs.Prelude.{ℕ, Bool, cond, List, [], ◌∷◌, ◌==◌, Result, Ok, Err}
+use Rattle.std.specs.Prelude.{◌≡◌, ℕ, Bool, cond, List, [], ◌∷◌, ◌==◌, Result, Ok, Err}
 use Rattle.std.specs.Fmt.{decimal}
 use Rattle.chip_core.specs.declared.refusal.Refusal.{Refusal}
 use Rattle.chip_core.specs.declared.refusal.Refusal.TheVariants.{DeckTooShort, BytesAfterLines, LinesAbove256, LabelNotBelowLines, OperationAbove27, SecondByteNotAllowed, OperandNotAllowed, WordsAbove256, OutputTooShort, WordAbove4095, ImageAbove256Words, NotSixteenCells, RegisterOutOfRange, FieldOutOfRange, FetchNotNext}
@@ -100,6 +100,10 @@ number_of NotSixteenCells = not_sixteen_cells
 number_of RegisterOutOfRange = register_out_of_range
 number_of FieldOutOfRange = field_out_of_range
 number_of FetchNotNext = fetch_not_next
+
+-- what `number` promises of its answer
+abbrev pub NumberPromise : Refusal → ℕ → Type 0
+NumberPromise refusal answer = answer ≡ number_of refusal
 
 -- "`refused ` and the number in decimal": the bytes that a refusal prints as
 abbrev pub printed : Refusal → List ℕ

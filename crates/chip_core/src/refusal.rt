@@ -1,6 +1,6 @@
 // Document 01's refusals, each with its number: this is their one place in the code, as specs/Refusal.antt is among the definitions.
-ghost use Rattle.std.specs.Prelude.{◌≡◌, Some};
-ghost use Rattle.chip_core.specs.Refusal.{number_of, printed};
+ghost use Rattle.std.specs.Prelude.{Some};
+ghost use Rattle.chip_core.specs.Refusal.{NumberPromise, printed};
 
 use std::error::Error;
 use std::fmt;
@@ -43,7 +43,7 @@ pub enum Refusal {
 impl Refusal {
     // The number in document 01's table.
     pub fn number(self) -> u8
-        ensures { result ≡ number_of self }
+        ensures { NumberPromise self result }
     {
         self as u8
     }

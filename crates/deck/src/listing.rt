@@ -10,9 +10,9 @@ use chip_core::refusal::Refusal;
 // The length of the longest text, 1,802: `words 256` and a newline, and 256 lines of seven bytes.
 pub const LONGEST_TEXT: usize = 10 + 256 * 7;
 
-// A digit, in capitals where it is above 9. Digits are made here, and not by `write!`, since the promise says each byte (`ListingPromise`) and no clause of std says
-// what `write!` writes. Each function below asks for the room that its own part takes,
-// which is another number each time, so that no type can say it.
+// A digit, in capitals where it is above 9. Digits are made here, and not by `write!`, since the promise says each byte (`ListingPromise`): std's clauses say
+// what `write!` writes to a `String`, which wants memory from the heap, and a `Text` is no writer of std's. Each function below asks for the room that its own part
+// takes, which is another number each time, so that no type can say it.
 fn digit(number: u16) -> u8
     requires { number < 16 }
     ensures { result ≡ digit number }
