@@ -117,6 +117,7 @@ pub in_place_by_value : (machine : Machine) (image cells : List ℕ) (answer : R
     → ClockPromise machine image cells (by_value left answer) after × (left ≡ machine_left machine (by_value left answer))
 in_place_by_value machine image cells answer left after p = lent_as_given _ _ _ answer left after p
 
+-- (where it is refused too: then the run before it was, and the machine is the one that the run was given)
 stands_on : (image : List ℕ) (n : ℕ) (machine : Machine) (cells : List ℕ) (r : Result Machine Refusal) (left : List ℕ)
     (answer : Result Unit Refusal) (after : Machine) (right : List ℕ)
     → RunPromise n machine image cells r left → ClockInPlacePromise (machine_left machine r) image left answer after right

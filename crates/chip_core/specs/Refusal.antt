@@ -101,14 +101,6 @@ number_of RegisterOutOfRange = register_out_of_range
 number_of FieldOutOfRange = field_out_of_range
 number_of FetchNotNext = fetch_not_next
 
--- what `number` promises of its answer
-abbrev pub NumberPromise : Refusal → ℕ → Type 0
-NumberPromise refusal answer = answer ≡ number_of refusal
-
--- "`refused ` and the number in decimal": the bytes that a refusal prints as
-abbrev pub printed : Refusal → List ℕ
-printed refusal = 114 ∷ 101 ∷ 102 ∷ 117 ∷ 115 ∷ 101 ∷ 100 ∷ 32 ∷ decimal (number_of refusal)
-
 -- and the number and values of an answer. The number is 0 where nothing is refused. "A refusal returns its number; .. other result fields are 0":
 -- a refused answer has no other result field that could be 0, and so no value.
 pub record NumberAndValues (A : Type 0) : Type 0 where
@@ -126,3 +118,11 @@ refusal_number answer = (number_and_values answer).number
 -- an answer with this number, and with this value if it is accepted
 abbrev pub answered : {A : Type 0} → ℕ → A → NumberAndValues A
 answered number value = record { number = number; values = cond (number == accepted) (value ∷ []) [] }
+
+-- what `number` promises of its answer
+abbrev pub NumberPromise : Refusal → ℕ → Type 0
+NumberPromise refusal answer = answer ≡ number_of refusal
+
+-- "`refused ` and the number in decimal": the bytes that a refusal prints as
+abbrev pub printed : Refusal → List ℕ
+printed refusal = 114 ∷ 101 ∷ 102 ∷ 117 ∷ 115 ∷ 101 ∷ 100 ∷ 32 ∷ decimal (number_of refusal)

@@ -4,7 +4,8 @@ ghost use Rattle.std.specs.Prelude.{◌≡◌, ℕ, ◌+◌, ◌<◌, ◌≤◌,
 use super::listing::LONGEST_TEXT;
 use std::marker::Model;
 
-// The length stands first: a copy of the bytes, of any count, then can't read it, so that it need not be stored after each line.
+// The length stands first: a copy out of the bytes, whose count the compiler doesn't know, then can't reach it, and the compiler keeps it in a register while lines
+// are put.
 // Contracts see the bytes that the text has come to, as a list. Memory and length stand here and nowhere else: a `Vec` would want memory from the heap, which the
 // library takes none of.
 #[derive(Drop)]
